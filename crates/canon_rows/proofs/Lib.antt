@@ -1,0 +1,16 @@
+pub mod HalfMasks
+pub mod RowValues
+pub mod RowRecursion
+pub mod PieceParts
+pub mod RowSteps
+pub mod Places
+pub mod Canonical
+pub mod RowLists
+pub mod RowOrder
+pub mod CanonicalRows
+pub mod RowLaws
+pub mod LikeFunctions
+pub mod OneList
+pub mod NodeRows
+pub mod OneRowOf
+pub mod NodeSteps

@@ -1,0 +1,4 @@
+pub mod Pieces
+pub mod PlainRows
+pub mod Laws
+pub mod Nodes

@@ -1,0 +1,6 @@
+pub mod MaskLemmas
+pub mod SplitLemmas
+pub mod ValueLemmas
+pub mod CutLemmas
+pub mod RestLemmas
+pub mod StampLemmas

@@ -1,0 +1,4 @@
+pub mod Pairs
+pub mod Rest
+pub mod Pieces
+pub mod Stamps

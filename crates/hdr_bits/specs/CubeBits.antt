@@ -1,0 +1,28 @@
+-- The places of a cube, and the headers that are in it.
+use Rattle.std.specs.Prelude.{ℕ, Option, Some, None, ◌≡◌, ◌<◌, ◌==◌, Bool, bit_and, if◌then◌else◌, IsNone, IfSome}
+use Rattle.hdr_bits.specs.declared.cube.Cube.{Cube}
+use Rattle.hdr_bits.specs.Bits.{bit}
+
+-- place k of a cube: its digit, or nothing for `*`
+abbrev pub place : Cube → ℕ → Option ℕ
+place c k = if bit c.fixed k == 0 then None else Some (bit c.bits k)
+
+-- place k is `*` or the header's bit k
+abbrev pub AgreesAt : Cube → ℕ → ℕ → Type 0
+AgreesAt c h k = IfSome (place c k) (λ b. bit h k ≡ b)
+
+-- the header with number h is in the cube
+abbrev pub IsIn : Cube → ℕ → Type 0
+IsIn c h = (k : ℕ) → k < 112 → AgreesAt c h k
+
+-- it agrees with the places before k
+abbrev pub AgreesBefore : Cube → ℕ → ℕ → Type 0
+AgreesBefore c k h = (i : ℕ) → i < k → AgreesAt c h i
+
+-- place k is `*`
+abbrev pub IsStar : Cube → ℕ → Type 0
+IsStar c k = IsNone (place c k)
+
+-- the test that the code makes, on masks
+abbrev pub is_in : Cube → ℕ → Bool
+is_in c h = bit_and h c.fixed == c.bits

@@ -1,0 +1,9 @@
+pub mod Faults
+pub mod Files
+pub mod Names
+pub mod ReadFail
+pub mod Sink
+pub mod Store
+pub mod MemFiles
+pub mod BoundedSink
+pub mod Written

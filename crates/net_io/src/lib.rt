@@ -1,0 +1,28 @@
+//! Files to read and sinks to write to, by what they hold and by how often they failed.
+//!
+//! Code that reads files is generic over [`Files`], and code that writes over [`Sink`]. Each counts its
+//! faults, and a call that answers `Failed` has raised that count. So a program that gives up without a
+//! fault of the outside meets no contract that names the count.
+//!
+//! [`MemFiles`] and [`MemSink`] stand in memory and tell all that they hold. [`RealFiles`] and
+//! [`RealSink`] stand over the system, and tell nothing: that the system reads and writes as it should
+//! is trusted. So a `RealFiles` that always answered `Absent`, or that each folder and file is empty,
+//! would meet its contract, and so would a [`Stream`] that writes nothing. Only tests speak against that.
+#![tactic(auto)]
+
+mod mem_files;
+mod mem_sink;
+mod reading;
+mod real_files;
+mod real_sink;
+mod writing;
+
+pub use mem_files::MemFiles;
+pub use mem_sink::MemSink;
+pub use reading::{FILE_LIMIT, FileFail, Files, ReadFail, read_all};
+pub use real_files::RealFiles;
+pub use real_sink::{RealSink, Stream};
+pub use writing::{Failed, Sink, write_all};
+
+#[cfg(test)]
+mod tests;

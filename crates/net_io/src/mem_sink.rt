@@ -1,0 +1,76 @@
+// A sink in memory.
+ghost use Rattle.std.specs.Prelude.{◌≡◌, ◌-◌, ◌<◌, ◌≤◌, ◌++◌, [], IfOk, OnErr, length, min, take};
+ghost use Rattle.net_io.specs.Faults.{counted};
+
+use crate::{Failed, Sink};
+use no_memory::NoMemory;
+use std::alloc::Global;
+use std::marker::Model;
+
+/// A sink in memory that takes so many bytes and then fails.
+#[derive(Drop)]
+pub struct MemSink {
+    taken: Vec<u8>,
+    room: usize,
+    faults: u64,
+}
+
+impl Model for MemSink {
+    ghost use Rattle.std.specs.Prelude.{◌≤◌, vec_len, vec_capacity};
+    ghost use Rattle.net_io.specs.BoundedSink.{BoundedSink};
+
+    ghost Value = { BoundedSink };
+
+    ghost view = { λ s. record { taken = s.taken.items; room = s.room; faults = s.faults } };
+
+    // The room is there from the start, so that no write is in want of memory.
+    ghost invariant = { λ s. (vec_len s.taken ≤ s.room) × (s.room ≤ vec_capacity s.taken) };
+}
+
+impl MemSink {
+    /// A sink with room for `room` bytes, which are set aside at once.
+    pub fn new(alloc: Global, room: usize) -> Result<MemSink, NoMemory>
+        ensures { IfOk result (λ sink. sink ≡ record { taken = []; room = room; faults = 0 }) }
+    {
+        Ok(MemSink {
+            taken: Vec::with_capacity(alloc, room)?,
+            room,
+            faults: 0,
+        })
+    }
+
+    /// The bytes that it took.
+    pub fn taken(&self) -> &[u8]
+        ensures { result.now ≡ self.now.taken }
+    {
+        self.taken.as_slice()
+    }
+}
+
+impl Sink for MemSink {
+    ghost use Rattle.std.specs.Prelude.{Some};
+
+    ghost taken = { λ s. Some s.taken };
+
+    ghost faults = { λ s. s.faults };
+
+    /// Takes as many bytes of the piece as there is room for, and fails where there is room for none.
+    fn write(&mut self, piece: &[u8]) -> Result<usize, Failed>
+        ensures count { IfOk result (λ n. n ≡ min (length piece.now) (self.old.room - length self.old.taken)) }
+        ensures took { IfOk result (λ n. self.new ≡ record self.old { taken = self.old.taken ++ take n piece.now }) }
+        ensures some { IfOk result (λ n. 0 < length piece.now → 0 < n) }
+        ensures full { OnErr result (self.old.room ≤ length self.old.taken) }
+        ensures fault { OnErr result (self.new ≡ record self.old { faults = counted self.old.faults }) }
+        ensures later { self.old.faults ≤ self.new.faults }
+    {
+        let count = piece.len().min(self.room - self.taken.len());
+        if count == 0 && !piece.is_empty() {
+            self.faults = self.faults.saturating_add(1);
+            return Err(Failed);
+        }
+        match self.taken.extend_from_slice(&piece[..count]) {
+            Ok(()) => Ok(count),
+            Err(_) => unreachable!(),
+        }
+    }
+}

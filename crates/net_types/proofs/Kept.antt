@@ -1,0 +1,160 @@
+-- No rule changes the protocol or the flags of a header.
+use Rattle.std.proofs.Common.{◌≡◌, inl, inr, ◌⊎◌, ℕ, zero, suc, ◌+◌, ◌==◌, Bool, true, false, cond, ◌&&◌, List, [], ◌∷◌, Option, Some, None, refl, subst, ◌∙◌}
+use Rattle.std.specs.Prelude.{Contains, find}
+use Rattle.hdr_bits.specs.declared.header.Header.{Header}
+use Rattle.net_types.specs.declared.config.NatRule.{NatRule}
+use Rattle.net_types.specs.declared.network.Hop.{Hop}
+use Rattle.net_types.specs.declared.network.Hop.TheVariants.{Discard, Out}
+use Rattle.net_types.specs.declared.network.Move.{Move}
+use Rattle.net_types.specs.declared.network.Move.TheVariants.{Drop, Local, Lost, Exit, Go}
+use Rattle.net_types.specs.declared.network.Place.{Place}
+use Rattle.net_types.specs.declared.network.Segment.{Segment}
+use Rattle.net_types.specs.declared.network.State.{State}
+use Rattle.net_types.specs.Translation.{with_dst, with_src, from_outside, from_inside, port_fits_dst, plain_fits_dst, port_fits_src, plain_fits_src}
+use Rattle.net_types.specs.Routes.{hops, rib_of}
+use Rattle.net_types.specs.World.{World, Port, port_at, port_named, segment_of, is_other, answers, is_silent}
+use Rattle.net_types.specs.Moves.{moves_at, moves_in, local_or_forward, owner, is_dropped, is_inside, is_outside, lets_in, passes_list, coming_in, going_out, move_by, leave_if_any, send, send_p2p, send_lan}
+use Rattle.net_types.specs.Walks.{IsWalk, End, dropped, expired, local, exit, end_of, IsEnd}
+use Rattle.net_types.proofs.Members.{in_one, in_map}
+
+-- protocol and flags are as they were
+pub record Keeps (g h : Header) : Type 0 where
+  pub proto : h.proto ≡ g.proto
+  pub flags : h.flags ≡ g.flags
+
+kept : (h : Header) → Keeps h h
+kept h = record { proto = refl; flags = refl }
+
+kept_then : (f g h : Header) → Keeps f g → Keeps g h → Keeps f h
+kept_then f g h j k = record { proto = k.proto ∙ j.proto; flags = k.flags ∙ j.flags }
+
+-- the header that a move sends on keeps them
+abbrev KeptBy : Header → Move → Type 0
+KeptBy g Drop = Unit {0}
+KeptBy g (Local p) = Unit {0}
+KeptBy g Lost = Unit {0}
+KeptBy g (Exit p h) = Keeps g h
+KeptBy g (Go p h) = Keeps g h
+
+by_dst : (h : Header) (o q : Option NatRule) → Keeps h (with_dst h o q)
+by_dst h (Some r) q = record { proto = refl; flags = refl }
+by_dst h None (Some r) = record { proto = refl; flags = refl }
+by_dst h None None = kept h
+
+by_src : (h : Header) (o q : Option NatRule) → Keeps h (with_src h o q)
+by_src h (Some r) q = record { proto = refl; flags = refl }
+by_src h None (Some r) = record { proto = refl; flags = refl }
+by_src h None None = kept h
+
+either_kept : (g : Header) (b : Bool) (h k : Header) → Keeps g h → Keeps g k → Keeps g (cond b h k)
+either_kept g true h k e f = e
+either_kept g false h k e f = f
+
+in_kept : (port : Port) (h : Header) → Keeps h (coming_in port h)
+in_kept port h =
+    let rules = port.device.config.nat in
+    either_kept h (is_outside port.interface.side) (from_outside rules h) h (by_dst h (find (port_fits_dst h) rules) (find (plain_fits_dst h) rules)) (kept h)
+
+out_kept : (port out : Port) (h : Header) → Keeps h (going_out port out h)
+out_kept port out h =
+    let rules = port.device.config.nat in
+    by_side (is_inside port.interface.side) (is_outside out.interface.side) (from_inside rules h) (by_src h (find (port_fits_src h) rules) (find (plain_fits_src h) rules))
+  where
+    by_side : (a b : Bool) (k : Header) → Keeps h k → Keeps h (cond (a && b) k h)
+    by_side true true k e = e
+    by_side true false k e = kept h
+    by_side false b k e = kept h
+
+either_by : (g : Header) (b : Bool) (m n : Move) → KeptBy g m → KeptBy g n → KeptBy g (cond b m n)
+either_by g true m n e f = e
+either_by g false m n e f = f
+
+by_p2p : (g : Header) (e : Place) (h : Header) (q : Option Place) → Keeps g h → KeptBy g (send_p2p e h q)
+by_p2p g e h None k = k
+by_p2p g e h (Some q) k = k
+
+by_lan : (g : Header) (e : Place) (h : Header) (q s : Option Place) → Keeps g h → KeptBy g (send_lan e h q s)
+by_lan g e h (Some q) s k = k
+by_lan g e h None (Some s) k = tt
+by_lan g e h None None k = k
+
+module _ (w : World) where
+  by_send : (g : Header) (e : Place) (a : ℕ) (h : Header) (s : Option Segment) → Keeps g h → KeptBy g (send w e a h s)
+  by_send g e a h None k = k
+  by_send g e a h (Some s) k =
+      either_by g s.lan (send_lan e h (find (answers w a e) s.ends) (find (is_silent w a e) s.ends)) (send_p2p e h (find (is_other e) s.ends))
+      (by_lan g e h (find (answers w a e) s.ends) (find (is_silent w a e) s.ends) k) (by_p2p g e h (find (is_other e) s.ends) k)
+
+  by_leave : (port : Port) (h : Header) (a : ℕ) (out : Option Port) → KeptBy h (leave_if_any w port h a out)
+  by_leave port h a None = tt
+  by_leave port h a (Some out) =
+      let g = going_out port out h in
+      either_by h (passes_list port.device.config out.interface.output g) (send w out.place a g (segment_of w out.place)) Lost
+      (by_send h out.place a g (segment_of w out.place) (out_kept port out h)) tt
+
+  by_hop : (port : Port) (h : Header) (hop : Hop) → KeptBy h (move_by w port h hop)
+  by_hop port h Discard = tt
+  by_hop port h (Out name a) = by_leave port h a (port_named port.device name)
+
+  in_either : (b : Bool) (ms ns : List Move) (m : Move) → Contains (cond b ms ns) m → Contains ms m ⊎ Contains ns m
+  in_either true ms ns m h = inl h
+  in_either false ms ns m h = inr h
+
+  by_drop : (h : Header) (m : Move) → Contains (Drop ∷ []) m → KeptBy h m
+  by_drop h m c = subst (KeptBy h) (in_one Drop m c) tt
+
+  by_forward : (port : Port) (h : Header) (own : Option Port) (m : Move) → Contains (local_or_forward w port h own) m → KeptBy h m
+  by_forward port h (Some own) m c = subst (KeptBy h) (in_one (Local own.place) m c) tt
+  by_forward port h None m c =
+      let i = in_map (move_by w port h) (hops (rib_of port.device.config) h.dst) m c in
+      subst (KeptBy h) i.2 (by_hop port h i.0)
+
+  kept_by_then : (f g : Header) → Keeps f g → (m : Move) → KeptBy g m → KeptBy f m
+  kept_by_then f g k Drop e = tt
+  kept_by_then f g k (Local p) e = tt
+  kept_by_then f g k Lost e = tt
+  kept_by_then f g k (Exit p h) e = kept_then f g h k e
+  kept_by_then f g k (Go p h) e = kept_then f g h k e
+
+  by_moves : (o : Option Port) (h : Header) (m : Move) → Contains (moves_at w o h) m → KeptBy h m
+  by_moves None h m c = by_drop h m c
+  by_moves (Some port) h m c =
+      let g = coming_in port h in
+      elim (in_either (lets_in port h) (moves_in w port g) (Drop ∷ []) m c) [
+        | inl d ↦ kept_by_then h g (in_kept port h) m (elim (in_either (is_dropped port.device.config g.dst) (Drop ∷ []) (local_or_forward w port g (owner port g.dst)) m d) [
+          | inl e ↦ by_drop g m e
+          | inr e ↦ by_forward port g (owner port g.dst) m e
+        ])
+        | inr d ↦ by_drop h m d
+      ]
+
+  pub kept_by_walk : (n : ℕ) (s u : State) → IsWalk w n s u → Keeps s.header u.header
+  kept_by_walk zero s u e = subst (λ (v : State). Keeps s.header v.header) e (kept s.header)
+  kept_by_walk (suc n) s u (v, h, g) = kept_then s.header v.header u.header (kept_by_walk n s v h) (by_moves (port_at w v.place) v.header (Go u.place u.header) g)
+
+-- the last header of an end keeps them
+abbrev pub KeptAt : Header → End → Type 0
+KeptAt g dropped = Unit {0}
+KeptAt g expired = Unit {0}
+KeptAt g (local p) = Unit {0}
+KeptAt g (exit p h) = Keeps g h
+
+by_some : {A : Type 0} (P : A → Type 0) (x y : A) → Some x ≡ Some y → P x → P y
+by_some P x y e p = let f : x ≡ y = cc in subst P f p
+
+at_end : (g : Header) (b : Bool) (m : Move) (e : End) → end_of b m ≡ Some e → KeptBy g m → KeptAt g e
+at_end g true Drop e f k = by_some (KeptAt g) dropped e f tt
+at_end g true (Local p) e f k = by_some (KeptAt g) (local p) e f tt
+at_end g true Lost e f k = by_some (KeptAt g) expired e f tt
+at_end g true (Exit p h) e f k = by_some (KeptAt g) expired e f tt
+at_end g true (Go p h) e f k = by_some (KeptAt g) expired e f tt
+at_end g false Drop e f k = by_some (KeptAt g) dropped e f tt
+at_end g false (Local p) e f k = by_some (KeptAt g) (local p) e f tt
+at_end g false Lost e f k = by_some (KeptAt g) dropped e f tt
+at_end g false (Exit p h) e f k = by_some (KeptAt g) (exit p h) e f k
+at_end g false (Go p h) e f k = cc
+
+pub kept_at_end : (w : World) (t : ℕ) (s : State) (e : End) → IsEnd w t s e → KeptAt s.header e
+kept_at_end w t s e i =
+    at_end s.header (i.count + 1 == t) i.move e i.ends
+    (kept_by_then w s.header i.state.header (kept_by_walk w i.count s i.state i.walk) i.move (by_moves w (port_at w i.state.place) i.state.header i.move i.made))

@@ -1,0 +1,13 @@
+pub mod Members
+pub mod Ordered
+pub mod Outcomes
+pub mod Labels
+pub mod Walking
+pub mod RouteLaws
+pub mod NeverEmpty
+pub mod Single
+pub mod Kept
+pub mod EndLaws
+pub mod LabelLaws
+pub mod HopOrder
+pub mod Checks

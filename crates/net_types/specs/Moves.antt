@@ -1,0 +1,143 @@
+-- Moves: what a device does with a packet that arrives, apart from its TTL. The order of lists, translation and lookup
+-- is that of IOS (NAT order of operation); the drop of directed broadcasts and of addresses from 224.0.0.0 on is this
+-- product's choice.
+use Rattle.std.specs.Prelude.{ℕ, ◌+◌, ◌-◌, ◌*◌, ◌^◌, Bool, true, false, ◌&&◌, ◌||◌, List, [], ◌∷◌, Option, Some, None, map, find, position, nat_le, ◌==◌, option_and_then, if◌then◌else◌}
+use Rattle.std.specs.List.{list_any}
+use Rattle.hdr_bits.specs.declared.header.Header.{Header}
+use Rattle.net_types.specs.declared.config.Config.{Config}
+use Rattle.net_types.specs.declared.config.AccessList.{AccessList}
+use Rattle.net_types.specs.declared.config.Interface.{Interface}
+use Rattle.net_types.specs.declared.config.Subnet.{Subnet}
+use Rattle.net_types.specs.declared.config.Side.{Side}
+use Rattle.net_types.specs.declared.config.Side.TheVariants.{Neither, Inside, Outside}
+use Rattle.net_types.specs.declared.network.Hop.{Hop}
+use Rattle.net_types.specs.declared.network.Hop.TheVariants.{Discard, Out}
+use Rattle.net_types.specs.declared.network.Move.{Move}
+use Rattle.net_types.specs.declared.network.Move.TheVariants.{Drop, Local, Lost, Exit, Go}
+use Rattle.net_types.specs.declared.network.Place.{Place}
+use Rattle.net_types.specs.declared.network.Segment.{Segment}
+use Rattle.net_types.specs.AccessLists.{verdict, passes}
+use Rattle.net_types.specs.Translation.{from_inside, from_outside}
+use Rattle.net_types.specs.Routes.{same_text, live_subnets, is_enabled, has_address, network_of, rib_of, hops}
+use Rattle.net_types.specs.World.{World, Port, port_in, port_at, port_named, segment_of, is_other, answers, is_silent}
+
+-- ---- lists and sides
+
+-- the first list of that name
+abbrev pub list_named : Config → Option (List ℕ) → Option AccessList
+list_named c name = option_and_then (λ n. find (λ l. same_text l.name n) c.lists) name
+
+-- an interface without a list, or with one that doesn't exist, passes everything (IOS: ip access-group)
+abbrev pub passes_list : Config → Option (List ℕ) → Header → Bool
+passes_list c name h = passes (verdict (list_named c name) h)
+
+abbrev pub is_inside : Side → Bool
+is_inside Neither = false
+is_inside Inside = true
+is_inside Outside = false
+
+abbrev pub is_outside : Side → Bool
+is_outside Neither = false
+is_outside Inside = false
+is_outside Outside = true
+
+-- ---- arrival
+
+-- a packet is let in where the interface is IP-enabled and its input list passes it
+abbrev pub lets_in : Port → Header → Bool
+lets_in port h = is_enabled port.interface && passes_list port.device.config port.interface.input h
+
+-- at an outside interface the destination is translated, after the input list (IOS: NAT order of operation)
+abbrev pub coming_in : Port → Header → Header
+coming_in port h = if is_outside port.interface.side then from_outside port.device.config.nat h else h
+
+-- multicast and reserved destinations, 224.0.0.0/4 and 240.0.0.0/4 (RFC 1112)
+abbrev pub is_reserved : ℕ → Bool
+is_reserved a = nat_le (14 * 2 ^ 28) a
+
+-- the directed broadcast of a subnet, its all-ones address, where its length is at most 30 (RFC 1812, 5.3.5; RFC 3021)
+abbrev pub is_broadcast : ℕ → Subnet → Bool
+is_broadcast a s = nat_le s.length 30 && a + 1 == (network_of s).address + 2 ^ (32 - s.length)
+
+abbrev pub has_broadcast : ℕ → Interface → Bool
+has_broadcast a i = list_any (is_broadcast a) (live_subnets i)
+
+-- a destination that is dropped at once: multicast or reserved, or a directed broadcast of an IP-enabled interface of
+-- the device
+abbrev pub is_dropped : Config → ℕ → Bool
+is_dropped c a = is_reserved a || list_any (has_broadcast a) c.interfaces
+
+-- an IP-enabled interface has the address
+abbrev pub owns : ℕ → Interface → Bool
+owns a i = has_address a (live_subnets i)
+
+-- the first such interface of the device
+abbrev pub owner : Port → ℕ → Option Port
+owner port a = option_and_then (port_in port.device) (position (owns a) port.device.config.interfaces)
+
+-- ---- sending
+
+-- on a point-to-point segment the packet goes to the other end, whatever the next address
+abbrev pub send_p2p : Place → Header → Option Place → Move
+send_p2p e h None = Exit e h
+send_p2p e h (Some q) = Go q h
+
+-- on a lan it goes to the end that is IP-enabled and has the next address; it is lost where only an end that isn't
+-- IP-enabled has it; else it leaves the network
+abbrev pub send_lan : Place → Header → Option Place → Option Place → Move
+send_lan e h (Some q) silent = Go q h
+send_lan e h None (Some q) = Lost
+send_lan e h None None = Exit e h
+
+-- an interface on no segment, or without another end on it, leads out of the network
+abbrev pub send : World → Place → ℕ → Header → Option Segment → Move
+send w e a h None = Exit e h
+send w e a h (Some s) =
+    if s.lan then send_lan e h (find (answers w a e) s.ends) (find (is_silent w a e) s.ends)
+    else send_p2p e h (find (is_other e) s.ends)
+
+-- ---- leaving
+
+-- from an inside to an outside interface the source is translated, after the lookup (IOS: NAT order of operation)
+abbrev pub going_out : Port → Port → Header → Header
+going_out port out h =
+    if is_inside port.interface.side && is_outside out.interface.side then from_inside port.device.config.nat h else h
+
+-- the output list sees the translated packet, and what it denies is lost after the TTL was looked at
+abbrev pub leave_with : World → Port → Header → ℕ → Port → Move
+leave_with w port h a out =
+    if passes_list port.device.config out.interface.output h then send w out.place a h (segment_of w out.place) else Lost
+
+abbrev pub leave : World → Port → Header → ℕ → Port → Move
+leave w port h a out = leave_with w port (going_out port out h) a out
+
+-- an interface that the device doesn't have loses the packet. No accepted configuration routes to one
+abbrev pub leave_if_any : World → Port → Header → ℕ → Option Port → Move
+leave_if_any w port h a None = Lost
+leave_if_any w port h a (Some out) = leave w port h a out
+
+-- what becomes of the packet by one choice of the lookup
+abbrev pub move_by : World → Port → Header → Hop → Move
+move_by w port h Discard = Drop
+move_by w port h (Out name a) = leave_if_any w port h a (port_named port.device name)
+
+-- ---- all together
+
+-- a destination of the device itself is local there; any other is forwarded by each choice of its lookup
+abbrev pub local_or_forward : World → Port → Header → Option Port → List Move
+local_or_forward w port h (Some own) = Local own.place ∷ []
+local_or_forward w port h None = map (move_by w port h) (hops (rib_of port.device.config) h.dst)
+
+abbrev pub moves_in : World → Port → Header → List Move
+moves_in w port h =
+    if is_dropped port.device.config h.dst then Drop ∷ [] else local_or_forward w port h (owner port h.dst)
+
+-- an absent place drops everything
+abbrev pub moves_at : World → Option Port → Header → List Move
+moves_at w None h = Drop ∷ []
+moves_at w (Some port) h = if lets_in port h then moves_in w port (coming_in port h) else Drop ∷ []
+
+-- all that may become of a packet with this header that arrives at this place, as a set: input list, translation from
+-- outside, drops, local, lookup, translation from inside, output list, sending (IOS: NAT order of operation)
+abbrev pub moves : World → Place → Header → List Move
+moves w p h = moves_at w (port_at w p) h

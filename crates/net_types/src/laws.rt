@@ -1,0 +1,68 @@
+//! Laws of the definitions: where a rule of `specs/` is computed, it is also a set or a relation in the words of the
+//! subject, and both agree. Each function here is a statement; its body is empty.
+
+ghost use Rattle.std.specs.Prelude.{◌≡◌, ◌≢◌, ◌≤◌, ◌↔◌, ℕ, List, [], Some, IsNone, IsTrue, Contains, map, filter_map, ◌==◌};
+ghost use Rattle.hdr_bits.specs.declared.header.Header.{Header};
+ghost use Rattle.hdr_bits.specs.HeaderBits.{header_of};
+ghost use Rattle.net_types.specs.declared.config.Config.{Config};
+ghost use Rattle.net_types.specs.declared.config.Route.{Route};
+ghost use Rattle.net_types.specs.declared.label.Outcome.{Outcome};
+ghost use Rattle.net_types.specs.declared.network.Hop.{Hop};
+ghost use Rattle.net_types.specs.declared.network.Place.{Place};
+ghost use Rattle.net_types.specs.declared.network.Rib.{Rib};
+ghost use Rattle.net_types.specs.declared.network.State.{State};
+ghost use Rattle.net_types.specs.Routes.{IsValid, valid, IsInstalled, installed, IsChoice, hops};
+ghost use Rattle.net_types.specs.World.{World};
+ghost use Rattle.net_types.specs.Moves.{moves};
+ghost use Rattle.net_types.specs.Order.{in_order, outcome_cmp, IsLabel};
+ghost use Rattle.net_types.specs.Walks.{IsWalk, states_after, End, IsEnd, ends, end_of, outcome_of, state_at, SameEnds, HasEnd, label};
+ghost use Rattle.net_types.specs.Report.{same_label, affected};
+
+/// The computed valid routes are the least set that the two rules of a valid route make.
+pub fn valid_is_least()
+    ensures { (c : Config) (r : Route) → Contains (valid c) r ↔ IsValid c r }
+{}
+
+/// The computed installed routes are the valid ones of the smallest distance among those of their prefix.
+pub fn installed_is_best()
+    ensures { (c : Config) (r : Route) → Contains (installed c) r ↔ IsInstalled c r }
+{}
+
+/// The computed choices of a lookup are the union over the routes of the longest prefix.
+pub fn hops_are_choices()
+    ensures { (rib : Rib) (a : ℕ) (hop : Hop) → Contains (hops rib a) hop ↔ IsChoice rib.routes rib.count a hop }
+{}
+
+/// The computed states after some moves are where the walks of so many moves lead.
+pub fn states_are_walks()
+    ensures { (w : World) (n : ℕ) (s u : State) → Contains (states_after w n s) u ↔ IsWalk w n s u }
+{}
+
+/// The computed ends are those of the walks that the TTL allows.
+pub fn ends_are_ends_of_walks()
+    ensures { (w : World) (t : ℕ) (s : State) (e : End) → Contains (ends w t s) e ↔ IsEnd w t s e }
+{}
+
+/// A label has exactly the outcomes of the header's ends, in order, each once, and at least one.
+pub fn labels_have_outcomes()
+    ensures outcomes { (w : World) (t : ℕ) (p : Place) (h : Header) (o : Outcome) → Contains (label w t p h) o ↔ HasEnd w t p h o }
+    ensures some { (w : World) (t : ℕ) (p : Place) (h : Header) → 1 ≤ t → IsLabel (label w t p h) }
+{}
+
+/// Two labels of one header are equal exactly where its sets of ends are: since no rule changes the protocol or the
+/// flags, nothing is lost by writing a last header relative to the first.
+pub fn labels_tell_ends()
+    ensures { (old new : World) (t : ℕ) (p : Place) (h : Header) → (label old t p h ≡ label new t p h) ↔ SameEnds old new t p h }
+{}
+
+/// A header is affected exactly where its labels differ, and then it has that pair.
+pub fn affected_is_difference()
+    ensures same { (old new : World) (t : ℕ) (p : Place) (x : ℕ) → IsNone (affected old new t p x) ↔ (label old t p (header_of x) ≡ label new t p (header_of x)) }
+    ensures other { (old new : World) (t : ℕ) (p : Place) (x : ℕ) → label old t p (header_of x) ≢ label new t p (header_of x) → affected old new t p x ≡ Some (label old t p (header_of x), label new t p (header_of x)) }
+    ensures test { (a b : List Outcome) → IsTrue (same_label a b) ↔ (a ≡ b) }
+{}
+
+/// Without segments a packet ends at the device where it enters, by that device's moves.
+pub fn alone_is_one_device()
+    ensures { (w : World) → w.links.segments ≡ [] → (t : ℕ) (p : Place) (h : Header) → 1 ≤ t → label w t p h ≡ in_order outcome_cmp (map (outcome_of h) (filter_map (end_of (t == 1)) (moves w p h))) }
+{}

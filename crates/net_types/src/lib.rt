@@ -1,0 +1,29 @@
+//! The types of configurations, networks and reports, and the rules of what a packet does in a network.
+//!
+//! The rules are definitions of `specs/`: access lists in `Acl`, static routes in `Routes`, static address
+//! translation in `Nat`, a network and its links in `World`, what a device does with a packet in `Moves`, the walks
+//! of a packet and its label in `Walks`, the order of outcomes in `Order`, and the report in `Report`.
+#![tactic(auto)]
+
+mod config;
+mod copies;
+mod label;
+pub mod laws;
+mod list;
+mod network;
+mod text;
+mod word;
+
+pub use config::{
+    AccessList, Config, Entry, FlagTest, IcmpTest, Interface, Loaded, Masked, NatKind, NatRule,
+    PortTest, Route, RouteExit, Side, Subnet,
+};
+pub use copies::Duplicate;
+pub use label::{Label, Outcome};
+pub use list::List;
+pub use network::{
+    Hop, Links, Move, Names, NetDevice, Network, Place, Rib, Row, Section, Segment, State, Verdict,
+};
+pub use no_memory::NoMemory;
+pub use text::Text;
+pub use word::Word;
