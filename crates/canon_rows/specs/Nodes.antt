@@ -1,5 +1,5 @@
 -- the table of functions: which rows the function with a number has
-use Rattle.std.specs.Prelude.{ℕ, ◌≡◌, ◌≢◌, ◌⊎◌, List, [], ◌∷◌, ◌++◌, Option, Some, slice_get}
+use Rattle.std.specs.Prelude.{ℕ, ◌≡◌, ◌≢◌, ◌<◌, ◌+◌, ◌^◌, ◌⊎◌, List, [], ◌∷◌, ◌++◌, Option, Some, slice_get}
 use Rattle.std.proofs.Common.{zero, suc}
 use Rattle.canon_rows.specs.declared.table.Node.{Node}
 use Rattle.canon_rows.specs.declared.table.Node.TheVariants.{NoRow, OneRow, Halves}
@@ -47,6 +47,10 @@ pub record IsNumberOf (nodes : List Node) (width id : ℕ) (f : ℕ → Option �
   pub rows : List Plain
   pub of : IsRowsOf width f rows
   pub stands : StandsFor nodes width id rows
+
+-- g and h are f where the place of weight 2 ^ m is 0, and where it is 1
+abbrev pub AreHalvesOf : ℕ → (ℕ → Option ℕ) → (ℕ → Option ℕ) → (ℕ → Option ℕ) → Type 0
+AreHalvesOf m f g h = (n : ℕ) → n < 2 ^ m → (g n ≡ f n) × (h n ≡ f (n + 2 ^ m))
 
 -- the node is that of the function whose two halves these numbers stand for, where they differ
 abbrev pub IsOfHalves : List Node → ℕ → ℕ → ℕ → Node → Type 0

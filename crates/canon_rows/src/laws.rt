@@ -1,7 +1,7 @@
 //! What follows from the definition of a row, for each function that gives headers values.
 //!
-//! Each law is the contract of a function that does nothing; a proof cites it through a call, or
-//! takes the lemma of the same name.
+//! Each law is the contract of a function that does nothing. A proof takes its lemma, from `RowLaws`,
+//! `OneList`, `LikeFunctions` or `CanonicalRows` of this crate's proofs.
 
 ghost use Rattle.std.specs.Prelude.{◌≡◌, ◌<◌, ◌^◌, ◌↔◌, ℕ, List, ◌∷◌, Option, Some, None, IsSome, All, AllPairs};
 ghost use Rattle.hdr_bits.specs.declared.cube.Cube.{Cube};

@@ -3,7 +3,7 @@
 ghost use Rattle.std.specs.Prelude.{◌≡◌, ◌<◌, ◌≤◌, ◌^◌, ◌+◌, ℕ, List, Option, Some, All, [], ◌∷◌, IfOk, OnOk, map, slice_get};
 ghost use Rattle.canon_rows.specs.Pieces.{value_of};
 ghost use Rattle.canon_rows.specs.PlainRows.{Plain, plain, IsWellFormed, Each};
-ghost use Rattle.canon_rows.specs.Nodes.{one_row, StandsFor, IsNumberOf, IsOfHalves, Grows, AreDistinct};
+ghost use Rattle.canon_rows.specs.Nodes.{one_row, StandsFor, IsNumberOf, AreHalvesOf, IsOfHalves, Grows, AreDistinct};
 
 use crate::Piece;
 use crate::halves::{half, is_split, joined, weight};
@@ -69,7 +69,7 @@ fn number_of_halves(
 ) -> Result<usize, NoMemory>
     requires place { place < 112 }
     ensures number { IfOk result
-        (λ id. (f g h : ℕ → Option ℕ) → IsNumberOf nodes.old.keys place low g → IsNumberOf nodes.old.keys place high h → ((n : ℕ) → n < 2 ^ place → g n ≡ f n) → ((n : ℕ) → n < 2 ^ place → h n ≡ f (n + 2 ^ place)) → IsNumberOf nodes.new.keys (place + 1) id f) }
+        (λ id. (f g h : ℕ → Option ℕ) → AreHalvesOf place f g h → IsNumberOf nodes.old.keys place low g → IsNumberOf nodes.old.keys place high h → IsNumberOf nodes.new.keys (place + 1) id f) }
     ensures grows { OnOk result (Grows nodes.old.keys nodes.new.keys) }
 {
     if low == high {

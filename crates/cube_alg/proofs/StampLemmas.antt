@@ -10,7 +10,9 @@ use Rattle.std.proofs.Math.Nat.{pow-le-pow_right, mul-le-mul_right}
 use Rattle.hdr_bits.specs.declared.header.Header.{Header}
 use Rattle.hdr_bits.specs.declared.cube.Cube.{Cube}
 use Rattle.hdr_bits.specs.HeaderBits.{number, header_of, IsHeader}
-use Rattle.hdr_bits.specs.CubeBits.{IsIn}
+use Rattle.hdr_bits.specs.Bits.{bit}
+use Rattle.hdr_bits.specs.CubeBits.{IsIn, IsStar}
+use Rattle.cube_alg.proofs.SplitLemmas.{star_free, free_star}
 use Rattle.hdr_bits.proofs.Masks.{in_from_mask, mask_from_in}
 use Rattle.hdr_bits.proofs.Numbers.{number-header_of, header_of-number, header_of-is_header, number-below}
 use Rattle.cube_alg.specs.declared.stamp.Stamp.{Stamp}
@@ -442,3 +444,13 @@ changed_same s h =
       sport = same_value s.sport h.sport i;
       flags = h.flags;
     }
+
+-- a place that is `*` in the image
+pub image_star : (s : Stamp) (c d : Cube) (places digits k : ℕ) → Writes s places digits → d.fixed ≡ bit_or c.fixed places → IsStar d k → IsStar c k × ((h : Header) → IsHeader h → bit (number (applied s h)) k ≡ bit (number h) k)
+image_star s c d places digits k w e st =
+    let z = star_free d k st in
+    let x = bit_at_or c.fixed places (111 - k) in
+    let y = ap (λ n. bit_at n (111 - k)) e in
+    let f : bit c.fixed k ≡ 0 = omega (arith, x, y, z) in
+    let p : bit_at places (111 - k) ≡ 0 = omega (arith, x, y, z) in
+    (free_star c k f, λ h i. (w.replaced h i).outside (111 - k) p)

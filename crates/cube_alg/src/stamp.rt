@@ -1,9 +1,10 @@
 //! Stamps: fields of a header that address translation replaced.
 
-ghost use Rattle.std.specs.Prelude.{◌≡◌, ◌^◌, ◌<◌, ◌≤◌, ◌+◌, ◌-◌, ◌*◌, ◌↔◌, IfSome, IsNone};
+ghost use Rattle.std.specs.Prelude.{◌≡◌, ◌^◌, ◌<◌, ◌≤◌, ◌+◌, ◌-◌, ◌*◌, ◌↔◌, ℕ, IfSome, IsNone};
 ghost use Rattle.hdr_bits.specs.declared.header.Header.{Header};
 ghost use Rattle.hdr_bits.specs.HeaderBits.{number, IsHeader};
-ghost use Rattle.hdr_bits.specs.CubeBits.{IsIn};
+ghost use Rattle.hdr_bits.specs.Bits.{bit};
+ghost use Rattle.hdr_bits.specs.CubeBits.{IsIn, IsStar};
 ghost use Rattle.cube_alg.specs.Stamps.{applied, followed, unless_same, changed_fields, IsMadeFrom, IsFieldAt, Writes};
 
 use hdr_bits::{Cube, Header};
@@ -90,6 +91,10 @@ impl Stamp {
     /// The headers that the stamp makes of those of the cube.
     pub fn forth(&self, c: &Cube) -> Cube
         ensures made { (g : Header) → IsHeader g → IsIn result (number g) ↔ IsMadeFrom self.now c.now g }
+
+        // What is `*` there is `*` in the cube, and the stamp leaves it as it is.
+        ensures stars { (k : ℕ) → IsStar result k → IsStar c.now k }
+        ensures kept { (k : ℕ) → IsStar result k → (h : Header) → IsHeader h → bit (number (applied self.now h)) k ≡ bit (number h) k }
     {
         let Written { places, digits } = self.written();
         Cube {

@@ -28,4 +28,4 @@ returns-clause-number t c =
     let w : m + 1 ≡ c.args.width = omega arith in
     let nodes = c.number_of_pieces-3.new.nodes.keys in
     let low = number_grows m c.number_of_pieces-2.new.nodes.keys nodes c.in_ok-low.low (value_of c.in_ok-zeros.zeros.items) c.in_ok-high.ensures.grows c.in_ok-low.ensures.number in
-    subst (λ k. IsNumberOf c.number_of_halves.new.nodes.keys k c.in_ok-id-4.id f) w (c.in_ok-id-4.ensures.number f (value_of c.in_ok-zeros.zeros.items) (value_of c.in_ok-ones.ones.items) low c.in_ok-high.ensures.number (rw (← c.deref-3.ensures.value) c.in_ok-zeros.ensures.value) (rw (← c.deref-4.ensures.value) c.in_ok-ones.ensures.value))
+    subst (λ k. IsNumberOf c.number_of_halves.new.nodes.keys k c.in_ok-id-4.id f) w (c.in_ok-id-4.ensures.number f (value_of c.in_ok-zeros.zeros.items) (value_of c.in_ok-ones.ones.items) (λ n l. (rw (← c.deref-3.ensures.value) (c.in_ok-zeros.ensures.value n l), rw (← c.deref-4.ensures.value) (c.in_ok-ones.ensures.value n l))) low c.in_ok-high.ensures.number)

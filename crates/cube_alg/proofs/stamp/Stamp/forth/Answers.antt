@@ -1,7 +1,7 @@
 use Rattle.std.proofs.Common.{refl, bit_or}
 use Rattle.std.proofs.lemmas.Nat.{or_lt}
 use Rattle.hdr_bits.specs.declared.cube.Cube.{Cube}
-use Rattle.cube_alg.proofs.StampLemmas.{without, image_digits, image}
+use Rattle.cube_alg.proofs.StampLemmas.{without, image_digits, image, image_star}
 use Rattle.cube_alg.proofs.stamp.Stamp.forth.Goals as goal
 
 pub invariant_of-result : goal.invariant_of-result
@@ -14,10 +14,26 @@ invariant_of-result c =
       digits = image_digits k w.places w.digits e.below e.fits;
     }
 
-pub returns : goal.returns
-returns c =
+pub returns-clause-made : goal.returns-clause-made
+returns-clause-made c g i =
     let k = c.args.c.now in
     let w = c.written-places.result in
     let e = c.written-places.ensures in
     let d : Cube = record { fixed = bit_or k.fixed w.places; bits = bit_or (without k.bits w.places) w.digits; below = or_lt 112 k.fixed w.places k.below e.below; digits = image_digits k w.places w.digits e.below e.fits } in
-    record { made = λ g i. image c.args.self.now k d w.places w.digits e refl refl g i }
+    image c.args.self.now k d w.places w.digits e refl refl g i
+
+pub returns-clause-stars : goal.returns-clause-stars
+returns-clause-stars c j s =
+    let k = c.args.c.now in
+    let w = c.written-places.result in
+    let e = c.written-places.ensures in
+    let d : Cube = record { fixed = bit_or k.fixed w.places; bits = bit_or (without k.bits w.places) w.digits; below = or_lt 112 k.fixed w.places k.below e.below; digits = image_digits k w.places w.digits e.below e.fits } in
+    (image_star c.args.self.now k d w.places w.digits j e refl s).0
+
+pub returns-clause-kept : goal.returns-clause-kept
+returns-clause-kept c j s =
+    let k = c.args.c.now in
+    let w = c.written-places.result in
+    let e = c.written-places.ensures in
+    let d : Cube = record { fixed = bit_or k.fixed w.places; bits = bit_or (without k.bits w.places) w.digits; below = or_lt 112 k.fixed w.places k.below e.below; digits = image_digits k w.places w.digits e.below e.fits } in
+    (image_star c.args.self.now k d w.places w.digits j e refl s).1

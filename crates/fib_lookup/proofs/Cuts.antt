@@ -1,0 +1,79 @@
+-- The parts of the cut with the choices of their groups.
+use Rattle.std.proofs.Common.{◌≡◌, ℕ, zero, suc, ◌<◌, ◌^◌, ◌/◌, List, [], ◌∷◌, length, get_or, map, Option, Some, None, sym, ap, subst, ◌∙◌, arith}
+use Rattle.std.specs.Prelude.{All, AllPairs, Any}
+use Rattle.std.specs.Option.{unwrap_or}
+use Rattle.std.specs.List.Sorted.{IsStrictlySortedBy}
+use Rattle.std.proofs.lemmas.List.Kept.{AllPairs-cons}
+use Rattle.std.proofs.lemmas.List.Elements.{All-nil, All-map, All-weaker, All-head, All-tail}
+use Rattle.std.specs.Prelude.{IsNone, IfSome, true}
+use Rattle.std.proofs.Common.{true≢false}
+use Rattle.hdr_bits.specs.Bits.{bit}
+use Rattle.hdr_bits.specs.CubeBits.{IsIn, IsStar, is_in, place}
+use Rattle.cube_alg.proofs.ValueLemmas.{test_in}
+use Rattle.cube_alg.specs.declared.cut.Piece.{Piece}
+use Rattle.cube_alg.specs.Pieces.{value_of, AreApartPieces}
+use Rattle.hdr_bits.specs.declared.cube.Cube.{Cube}
+use Rattle.net_types.specs.declared.network.Rib.{Rib}
+use Rattle.net_types.specs.Order.{hop_cmp, in_order}
+use Rattle.net_types.specs.Routes.{hops, hops_within}
+use Rattle.net_types.proofs.Members.{to_map}
+use Rattle.fib_lookup.specs.declared.form.HopForm.{HopForm}
+use Rattle.fib_lookup.specs.declared.form.HopForm.TheVariants.{Discard}
+use Rattle.fib_lookup.specs.declared.group.Group.{Group}
+use Rattle.fib_lookup.specs.Forms.{form_cmp, hop_of}
+use Rattle.fib_lookup.specs.Groups.{number_of, forms_at, row, AreChoices}
+use Rattle.fib_lookup.proofs.Numbers.{forms_first}
+
+module _ {X Y : Type 0} (f : X → Y) where
+  pairs_map : (R : X → X → Type 0) (S : Y → Y → Type 0) → ((x y : X) → R x y → S (f x) (f y)) → (xs : List X) → AllPairs R xs → AllPairs S (map f xs)
+  pairs_map R S h [] p = λ i j d l m. absurd (omega arith)
+  pairs_map R S h (x ∷ xs) p =
+      AllPairs-cons S (f x) (map f xs) (All-map (S (f x)) f xs (λ k d l. h x (get_or xs k d) (p 0 (suc k) d (omega arith) (omega arith))))
+      (pairs_map R S h xs (λ i j d l m. p (suc i) (suc j) d (omega arith) (omega arith)))
+
+  any_mapped : (P : X → Type 0) (Q : Y → Type 0) → ((x : X) → P x → Q (f x)) → (xs : List X) → Any P xs → Any Q (map f xs)
+  any_mapped P Q h xs a = (let c = to_map f xs a.1 (a.0, a.2, a.3) in (c.0, f a.1, c.1, c.2, h a.1 a.4))
+
+pub rows_apart : (gs : List Group) (parts : List Piece) (rows : List (Cube × List HopForm)) → rows ≡ map (row gs) parts → AllPairs AreApartPieces parts → AllPairs (λ p q. (h : ℕ) → IsIn p.0 h → IsIn q.0 h → ⊥) rows
+rows_apart gs parts rows e a = subst (AllPairs (λ p q. (h : ℕ) → IsIn p.0 h → IsIn q.0 h → ⊥)) (sym e) (pairs_map (row gs) AreApartPieces (λ p q. (h : ℕ) → IsIn p.0 h → IsIn q.0 h → ⊥) (λ x y r. r) parts a)
+
+pub rows_cover : (gs : List Group) (pieces parts : List Piece) (rows : List (Cube × List HopForm)) (h n : ℕ) → rows ≡ map (row gs) parts → value_of pieces h ≡ Some n → ((h v : ℕ) → value_of pieces h ≡ Some v → Any (λ p. IsIn p.cube h) parts) → Any (λ p. IsIn p.0 h) rows
+rows_cover gs pieces parts rows h n q e f = subst (Any (λ p. IsIn p.0 h)) (sym q) (any_mapped (row gs) (λ p. IsIn p.cube h) (λ p. IsIn p.0 h) (λ x i. i) parts (f h n e))
+
+same_some : (x y : ℕ) → Some x ≡ Some y → x ≡ y
+same_some x y e = cc
+
+pub rows_exact : (rib : Rib) (gs : List Group) (pieces parts : List Piece) (rows : List (Cube × List HopForm)) → rows ≡ map (row gs) parts → AreChoices rib gs → ((h : ℕ) → h < 2 ^ 112 → value_of pieces h ≡ Some (unwrap_or (number_of gs (h / 2 ^ 80)) (length gs))) → All (λ p. (h : ℕ) → IsIn p.cube h → value_of pieces h ≡ Some p.value) parts → All (λ p. (h : ℕ) → h < 2 ^ 112 → IsIn p.0 h → in_order hop_cmp (map (hop_of (h / 2 ^ 80)) p.1) ≡ in_order hop_cmp (hops rib (h / 2 ^ 80))) rows
+rows_exact rib gs pieces parts rows q c n each =
+    subst (All (λ p. (h : ℕ) → h < 2 ^ 112 → IsIn p.0 h → in_order hop_cmp (map (hop_of (h / 2 ^ 80)) p.1) ≡ in_order hop_cmp (hops rib (h / 2 ^ 80)))) (sym q) (All-map (λ p. (h : ℕ) → h < 2 ^ 112 → IsIn p.0 h → in_order hop_cmp (map (hop_of (h / 2 ^ 80)) p.1) ≡ in_order hop_cmp (hops rib (h / 2 ^ 80))) (row gs) parts
+    (All-weaker (λ p. (h : ℕ) → IsIn p.cube h → value_of pieces h ≡ Some p.value) (λ p. (h : ℕ) → h < 2 ^ 112 → IsIn p.cube h → in_order hop_cmp (map (hop_of (h / 2 ^ 80)) (forms_at gs p.value)) ≡ in_order hop_cmp (hops rib (h / 2 ^ 80)))
+    (λ p f h b i.
+    (let e : p.value ≡ unwrap_or (number_of gs (h / 2 ^ 80)) (length gs) = same_some _ _ (sym (f h i) ∙ n h b) in
+    ap (λ v. in_order hop_cmp (map (hop_of (h / 2 ^ 80)) (forms_at gs v))) e ∙ (ap (λ fs. in_order hop_cmp (map (hop_of (h / 2 ^ 80)) fs)) (forms_first gs (h / 2 ^ 80)) ∙ c.choices (h / 2 ^ 80))))
+    parts each))
+
+one_sorted : IsStrictlySortedBy form_cmp (Discard ∷ [])
+unfolding IsStrictlySortedBy
+one_sorted = (tt, tt)
+
+forms_sorted : (gs : List Group) (v : ℕ) → All (λ g. IsStrictlySortedBy form_cmp g.forms.items) gs → IsStrictlySortedBy form_cmp (forms_at gs v)
+forms_sorted [] v a = one_sorted
+forms_sorted (g ∷ gs) zero a = All-head (λ g. IsStrictlySortedBy form_cmp g.forms.items) g gs a
+forms_sorted (g ∷ gs) (suc v) a = forms_sorted gs v (All-tail (λ g. IsStrictlySortedBy form_cmp g.forms.items) g gs a)
+
+pub rows_sorted : (rib : Rib) (gs : List Group) (parts : List Piece) (rows : List (Cube × List HopForm)) → rows ≡ map (row gs) parts → AreChoices rib gs → All (λ p. IsStrictlySortedBy form_cmp p.1) rows
+rows_sorted rib gs parts rows q c = subst (All (λ p. IsStrictlySortedBy form_cmp p.1)) (sym q) (All-map (λ p. IsStrictlySortedBy form_cmp p.1) (row gs) parts (λ k d l. forms_sorted gs (get_or parts k d).value c.sorted))
+
+pub none_choices : (rib : Rib) → rib.count ≡ 0 → AreChoices rib []
+none_choices rib z = record {
+  choices = λ a. ap (λ n. in_order hop_cmp (hops_within rib.routes n a)) (sym z);
+  sorted = All-nil (λ g. IsStrictlySortedBy form_cmp g.forms.items);
+}
+
+-- the cube of all headers holds each
+all_agree : (o : Option ℕ) (b : ℕ) → IsNone o → IfSome o (λ x. b ≡ x)
+all_agree None b n = tt
+all_agree (Some x) b n = absurd (true≢false n)
+
+pub in_all : (c : Cube) → ((k : ℕ) → k < 112 → IsStar c k) → (h : ℕ) → is_in c h ≡ true
+in_all c f h = test_in c h (λ k l. all_agree (place c k) (bit h k) (f k l))

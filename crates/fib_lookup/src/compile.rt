@@ -1,0 +1,126 @@
+ghost use Rattle.std.specs.Prelude.{◌≡◌, ◌<◌, ◌^◌, ◌/◌, ℕ, Some, IfOk, All, AllPairs, Any, map, length};
+ghost use Rattle.std.specs.Option.{unwrap_or};
+ghost use Rattle.std.specs.List.Sorted.{IsStrictlySortedBy};
+ghost use Rattle.hdr_bits.specs.CubeBits.{IsIn, is_in};
+ghost use Rattle.net_types.specs.Order.{hop_cmp, in_order};
+ghost use Rattle.net_types.specs.Routes.{holds, hops};
+ghost use Rattle.cube_alg.specs.Pieces.{value_of};
+ghost use Rattle.fib_lookup.specs.Forms.{form_cmp, hop_of};
+ghost use Rattle.fib_lookup.specs.Groups.{number_of, forms_at, row, AreChoices};
+
+use crate::form::HopForm;
+use crate::group::{Group, add_level};
+use crate::known::resolve;
+use crate::table::Table;
+use cube_alg::{Piece, first_cut};
+use hdr_bits::Cube;
+use net_types::{Duplicate, List, NoMemory, Rib, Subnet};
+use std::alloc::Global;
+
+/// The choices of every destination: disjoint cubes that hold all headers, each with the choices of its headers,
+/// in order and each once.
+///
+/// # Errors
+///
+/// There was no memory, or there are 2 to the 32 prefixes or more.
+pub fn compile_rib(alloc: Global, rib: &Rib) -> Result<Vec<(Cube, List<HopForm>)>, NoMemory>
+    ensures apart { IfOk result (λ r. AllPairs (λ p q. (h : ℕ) → IsIn p.0 h → IsIn q.0 h → ⊥) r.items) }
+    ensures covers { IfOk result (λ r. (h : ℕ) → h < 2 ^ 112 → Any (λ p. IsIn p.0 h) r.items) }
+
+    // A direct choice has the header's own destination as its next address.
+    ensures exact { IfOk result (λ r. All (λ p. (h : ℕ) → h < 2 ^ 112 → IsIn p.0 h → in_order hop_cmp (map (hop_of (h / 2 ^ 80)) p.1) ≡ in_order hop_cmp (hops rib.now (h / 2 ^ 80))) r.items) }
+    ensures sorted { IfOk result (λ r. All (λ p. IsStrictlySortedBy form_cmp p.1) r.items) }
+{
+    let groups = all_groups(alloc, rib)?;
+    let pieces = pieces_of(alloc, groups.as_slice())?;
+    let parts = first_cut(alloc, pieces.as_slice())?;
+    let rows = rows_of(alloc, groups.as_slice(), parts.as_slice())?;
+    Ok(rows)
+}
+
+/// The parts with the choices of their groups.
+fn rows_of(
+    alloc: Global,
+    groups: &[Group],
+    parts: &[Piece],
+) -> Result<Vec<(Cube, List<HopForm>)>, NoMemory>
+    ensures { IfOk result (λ rows. rows.items ≡ map (row groups.now) parts.now) }
+{
+    let mut rows = Vec::with_capacity(alloc, parts.len())?;
+    for part in parts {
+        rows.push((part.cube, forms_at(alloc, groups, part.value)?))?;
+    }
+    Ok(rows)
+}
+
+/// The groups of the prefixes, the longest first. Without a lookup there is none, and each destination is dropped.
+fn all_groups(alloc: Global, rib: &Rib) -> Result<Vec<Group>, NoMemory>
+    ensures { IfOk result (λ groups. AreChoices rib.now groups.items) }
+{
+    let Some(steps) = rib.count.checked_sub(1) else {
+        return Ok(Vec::new(alloc));
+    };
+    let routes = rib.routes.as_slice();
+    let table = Table::of(alloc, routes)?;
+    let known = resolve(alloc, &table, routes, steps)?;
+    let mut groups = Vec::new(alloc);
+    for level in &table.levels {
+        add_level(alloc, &known, level, &mut groups)?;
+    }
+    Ok(groups)
+}
+
+/// A piece for each group, in order, with the group's position as its value, and one for all other headers.
+fn pieces_of(alloc: Global, groups: &[Group]) -> Result<Vec<Piece>, NoMemory>
+    ensures { IfOk result (λ r. (h : ℕ) → h < 2 ^ 112 → value_of r.items h ≡ Some (unwrap_or (number_of groups.now (h / 2 ^ 80)) (length groups.now))) }
+{
+    let mut pieces = Vec::new(alloc);
+    for (i, group) in groups.iter().enumerate() {
+        let cube = prefix_cube(&group.prefix);
+        pieces.push(Piece {
+            cube,
+            value: number(i)?,
+        })?;
+    }
+    pieces.push(Piece {
+        cube: Cube::all(),
+        value: number(groups.len())?,
+    })?;
+    Ok(pieces)
+}
+
+/// The position as a piece's value.
+fn number(place: usize) -> Result<u32, NoMemory>
+    ensures { IfOk result (λ value. value ≡ place) }
+{
+    u32::try_from(place).map_err(|_| NoMemory)
+}
+
+/// The cube of the headers whose destination the prefix holds.
+fn prefix_cube(prefix: &Subnet) -> Cube
+    ensures { (h : ℕ) → h < 2 ^ 112 → is_in result h ≡ holds prefix.now (h / 2 ^ 80) }
+{
+    let size: u64 = 1 << (32 - u32::from(prefix.length));
+    let mask = (1 << 32) - size;
+    let address = u64::from(prefix.address);
+    let least = address - address % size;
+    Cube {
+        fixed: u128::from(mask) * (1 << 80),
+        bits: u128::from(least) * (1 << 80),
+    }
+}
+
+/// The choices of the group at this position; a drop where there is none.
+fn forms_at(alloc: Global, groups: &[Group], place: u32) -> Result<List<HopForm>, NoMemory>
+    ensures { IfOk result (λ forms. forms ≡ forms_at groups.now place) }
+{
+    let mut forms = List::empty(alloc);
+    let Some(group) = groups.get(place as usize) else {
+        forms.push(HopForm::Discard)?;
+        return Ok(forms);
+    };
+    for form in &group.forms {
+        forms.push(form.copy(alloc)?)?;
+    }
+    Ok(forms)
+}

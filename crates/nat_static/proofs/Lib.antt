@@ -1,0 +1,4 @@
+pub mod SideLemmas
+pub mod RuleLemmas
+pub mod FixedLemmas
+pub mod StampedLemmas

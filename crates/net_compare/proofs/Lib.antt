@@ -1,0 +1,6 @@
+pub mod NumberLemmas
+pub mod DifferenceLemmas
+pub mod CubeOfPrefix
+pub mod PartLemmas
+pub mod PartLabels
+pub mod AlikeHeaders

@@ -1,0 +1,4 @@
+pub mod Size
+pub mod Hosts
+pub mod Steps
+pub mod Listing

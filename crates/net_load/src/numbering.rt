@@ -1,0 +1,251 @@
+//! Numbers in place of names.
+ghost use Rattle.std.specs.Prelude.{◌≡◌, ◌<◌, ◌^◌, ◌∷◌, ◌++◌, ◌≤◌, [], IfOk, OnOk, length, map, flat_map};
+ghost use Rattle.topo_links.specs.Table.{end_names, table_names};
+ghost use Rattle.topo_links.specs.Names.{add_name, add_names, sorted_names};
+ghost use Rattle.net_load.specs.Numbering.{config_names, folder_names, count_names, names_of, number_of, device_of, network_of, place_of, places_of, segments_of, links_of, ingress_of, numbered_of};
+
+use net_types::{
+    Config, Interface, Links, List, Loaded, Names, NetDevice, Network, NoMemory, Place, Segment,
+    Text,
+};
+use std::alloc::Global;
+use topo_links::{LinkKind, LinkLine, LinkTable, NameIndex};
+
+/// Two networks and the links between their devices, over one list of names.
+#[derive(Drop)]
+pub struct Numbered {
+    pub names: Names,
+    pub old: Network,
+    pub new: Network,
+    pub links: Links,
+}
+
+/// Gives each name its number, which is its place among all names in the order of their bytes.
+///
+/// The names are the hostnames and interface names of both networks, the names of the table and the extra ones. Devices
+/// keep their order and their configurations, segments and ingresses the order of the table. There must be fewer than
+/// 2^32 names in all.
+pub fn number_all(
+    alloc: Global,
+    old: Vec<Loaded>,
+    new: Vec<Loaded>,
+    table: &LinkTable,
+    extra: &[Text],
+) -> Result<Numbered, NoMemory>
+    requires { count_names old.items new.items table.now extra.now < 2 ^ 32 }
+    ensures { IfOk result (λ numbered. numbered ≡ numbered_of old.items new.items table.now extra.now) }
+{
+    let names = collect(alloc, &old, &new, table, extra)?;
+    Ok(Numbered {
+        old: number_network(alloc, &names, old)?,
+        new: number_network(alloc, &names, new)?,
+        links: number_links(alloc, &names, table)?,
+        names: Names {
+            texts: names.copies(alloc)?,
+        },
+    })
+}
+
+/// All names in order.
+fn collect(
+    alloc: Global,
+    old: &[Loaded],
+    new: &[Loaded],
+    table: &LinkTable,
+    extra: &[Text],
+) -> Result<NameIndex, NoMemory>
+    ensures names { IfOk result (λ names. names ≡ names_of old.now new.now table.now extra.now) }
+    ensures count { IfOk result (λ names. length names ≤ count_names old.now new.now table.now extra.now) }
+{
+    let mut names = NameIndex::new(alloc);
+    add_folder(alloc, &mut names, old)?;
+    add_folder(alloc, &mut names, new)?;
+    add_table(alloc, &mut names, table)?;
+    add_texts(alloc, &mut names, extra)?;
+    names.sort()?;
+    Ok(names)
+}
+
+/// Adds the names of a network.
+fn add_folder(alloc: Global, names: &mut NameIndex, folder: &[Loaded]) -> Result<(), NoMemory>
+    ensures { OnOk result (names.new ≡ add_names names.old (folder_names folder.now)) }
+{
+    for loaded in folder {
+        add_config(alloc, names, &loaded.config)?;
+    }
+    Ok(())
+}
+
+/// Adds the names of a device.
+fn add_config(alloc: Global, names: &mut NameIndex, config: &Config) -> Result<(), NoMemory>
+    ensures { OnOk result (names.new ≡ add_names names.old (config_names config.now)) }
+{
+    names.add(alloc, &config.hostname)?;
+    for interface in config.interfaces.as_slice() {
+        names.add(alloc, &interface.name)?;
+    }
+    Ok(())
+}
+
+/// Adds the names of a link table.
+fn add_table(alloc: Global, names: &mut NameIndex, table: &LinkTable) -> Result<(), NoMemory>
+    ensures { OnOk result (names.new ≡ add_names names.old (table_names table.now)) }
+{
+    for line in table.lines.as_slice() {
+        add_ends(alloc, names, line.ends.as_slice())?;
+    }
+    Ok(())
+}
+
+/// Adds the names of ends.
+fn add_ends(alloc: Global, names: &mut NameIndex, ends: &[(Text, Text)]) -> Result<(), NoMemory>
+    ensures { OnOk result (names.new ≡ add_names names.old (end_names ends.now)) }
+{
+    for (device, interface) in ends {
+        names.add(alloc, device)?;
+        names.add(alloc, interface)?;
+    }
+    Ok(())
+}
+
+/// Adds further names.
+fn add_texts(alloc: Global, names: &mut NameIndex, texts: &[Text]) -> Result<(), NoMemory>
+    ensures { OnOk result (names.new ≡ add_names names.old texts.now) }
+{
+    for text in texts {
+        names.add(alloc, text)?;
+    }
+    Ok(())
+}
+
+/// The number of a name.
+fn number(names: &NameIndex, name: &Text) -> u32
+    requires { length names.now < 2 ^ 32 }
+    ensures { result ≡ number_of names.now name.now }
+{
+    match names.place(name) {
+        None => 0,
+        Some(place) => place as u32,
+    }
+}
+
+/// The numbers of the interfaces.
+fn number_interfaces(
+    alloc: Global,
+    names: &NameIndex,
+    interfaces: &[Interface],
+) -> Result<List<u32>, NoMemory>
+    requires { length names.now < 2 ^ 32 }
+    ensures { IfOk result (λ numbers. numbers ≡ map (λ i. number_of names.now i.name) interfaces.now) }
+{
+    let mut numbers = Vec::with_capacity(alloc, interfaces.len())?;
+    for interface in interfaces {
+        numbers.push(number(names, &interface.name))?;
+    }
+    Ok(List::new(numbers))
+}
+
+/// A device whose names are numbers.
+fn number_device(alloc: Global, names: &NameIndex, loaded: Loaded) -> Result<NetDevice, NoMemory>
+    requires { length names.now < 2 ^ 32 }
+    ensures { IfOk result (λ device. device ≡ device_of names.now loaded) }
+{
+    let Loaded {
+        file: _,
+        config,
+        passed: _,
+    } = loaded;
+    let name = number(names, &config.hostname);
+    let numbers = number_interfaces(alloc, names, config.interfaces.as_slice())?;
+    Ok(NetDevice {
+        name,
+        config,
+        numbers,
+    })
+}
+
+/// A network whose names are numbers.
+fn number_network(
+    alloc: Global,
+    names: &NameIndex,
+    folder: Vec<Loaded>,
+) -> Result<Network, NoMemory>
+    requires { length names.now < 2 ^ 32 }
+    ensures { IfOk result (λ network. network ≡ network_of names.now folder.items) }
+{
+    let mut devices = Vec::with_capacity(alloc, folder.len())?;
+    for loaded in folder {
+        devices.push(number_device(alloc, names, loaded)?)?;
+    }
+    Ok(Network {
+        devices: List::new(devices),
+    })
+}
+
+/// The places of ends.
+fn number_ends(
+    alloc: Global,
+    names: &NameIndex,
+    ends: &[(Text, Text)],
+) -> Result<Vec<Place>, NoMemory>
+    requires { length names.now < 2 ^ 32 }
+    ensures { IfOk result (λ places. places.items ≡ places_of names.now ends.now) }
+{
+    let mut places = Vec::with_capacity(alloc, ends.len())?;
+    for (device, interface) in ends {
+        places.push(Place {
+            device: number(names, device),
+            interface: number(names, interface),
+        })?;
+    }
+    Ok(places)
+}
+
+/// Adds the segment of a line, or its ingress.
+fn add_line(
+    alloc: Global,
+    names: &NameIndex,
+    segments: &mut Vec<Segment>,
+    ingress: &mut Vec<Place>,
+    line: &LinkLine,
+) -> Result<(), NoMemory>
+    requires { length names.now < 2 ^ 32 }
+    ensures segments { OnOk result (segments.new.items ≡ segments.old.items ++ segments_of names.now line.now) }
+    ensures ingress { OnOk result (ingress.new.items ≡ ingress.old.items ++ ingress_of names.now line.now) }
+{
+    let places = number_ends(alloc, names, line.ends.as_slice())?;
+    match line.kind {
+        LinkKind::P2p => {
+            segments.push(Segment {
+                lan: false,
+                ends: List::new(places),
+            })?;
+        }
+        LinkKind::Lan => {
+            segments.push(Segment {
+                lan: true,
+                ends: List::new(places),
+            })?;
+        }
+        LinkKind::Ingress => {
+            ingress.extend_from_slice(&places)?;
+        }
+    }
+    Ok(())
+}
+
+/// The links of a table.
+fn number_links(alloc: Global, names: &NameIndex, table: &LinkTable) -> Result<Links, NoMemory>
+    requires { length names.now < 2 ^ 32 }
+    ensures { IfOk result (λ links. links ≡ links_of names.now table.now) }
+{
+    let mut segments = Vec::new(alloc);
+    let mut ingress = Vec::new(alloc);
+    for line in table.lines.as_slice() {
+        add_line(alloc, names, &mut segments, &mut ingress, line)?;
+    }
+    Ok(Links {
+        segments: List::new(segments),
+        ingress: List::new(ingress),
+    })
+}

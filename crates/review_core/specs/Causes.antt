@@ -1,0 +1,15 @@
+-- A count of faults over a step of a job.
+use Rattle.std.specs.Prelude.{ℕ, ◌≤◌, Result, Ok, Err, IfErr}
+use Rattle.net_io.specs.Faults.{Rose}
+use Rattle.review_core.specs.declared.stop.Stop.{Stop}
+use Rattle.review_core.specs.declared.stop.Stop.TheVariants as stop
+
+-- a file can't be read only where the count rose
+abbrev pub FaultRose : ℕ → ℕ → Stop → Type 0
+FaultRose before now (stop.CannotRead path) = Rose before now
+FaultRose before now _ = Unit {0}
+
+-- the count never falls, and has risen where a file could not be read
+pub record HasCause {T : Type 0} (before now : ℕ) (result : Result T Stop) : Type 0 where
+  pub later : before ≤ now
+  pub fault : IfErr result (FaultRose before now)

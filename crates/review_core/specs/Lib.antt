@@ -1,0 +1,5 @@
+pub mod Stops
+pub mod Words
+pub mod Steps
+pub mod Causes
+pub mod Job

@@ -1,0 +1,16 @@
+//! The program as one call: the words of the command line in, a report and a status out.
+#![tactic(auto)]
+
+mod comparison;
+mod folder;
+mod stop;
+mod table;
+mod top;
+mod words;
+
+pub use comparison::Report;
+pub use stop::{Beyond, Stop};
+pub use top::{USAGE, run};
+
+#[cfg(test)]
+mod tests;

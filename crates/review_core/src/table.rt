@@ -1,0 +1,136 @@
+ghost use Rattle.std.specs.Prelude.{◌≡◌, ◌≤◌, None, IfOk, IfSome, length, find};
+ghost use Rattle.std.specs.Option.{option_copied};
+ghost use Rattle.net_io.specs.Files.{content};
+ghost use Rattle.net_io.specs.declared.reading.TheConstants.{FILE_LIMIT};
+ghost use Rattle.topo_links.specs.Table.{table_names};
+ghost use Rattle.review_core.specs.Causes.{HasCause};
+ghost use Rattle.review_core.specs.Steps.{GivesBytes, GivesTable, IsChecked, SaysTable, is_segment, first_segment, kind_word};
+
+use crate::stop::Stop;
+use net_io::{Files, ReadFail, read_all};
+use net_types::{Loaded, NoMemory, Text};
+use std::alloc::Global;
+use topo_links::{LinkFail, LinkKind, LinkLine, LinkRefusal, LinkTable, check, read_links};
+
+/// The link table of a file, for these networks.
+pub(crate) fn read_table<F: Files>(
+    alloc: Global,
+    files: &mut F,
+    path: &str,
+    old: &[Loaded],
+    new: &[Loaded],
+) -> Result<LinkTable, Stop>
+    ensures names { IfOk result (λ table. length (table_names table) ≤ 16777216) }
+    ensures segments { IfOk result (λ table. first_segment table.lines ≡ None) }
+    ensures table { IfSome (F.told files.old) (λ t. GivesTable t path.now old.now new.now result) }
+    ensures cause { HasCause (F.faults files.old) (F.faults files.new) result }
+    ensures same { F.told files.new ≡ F.told files.old }
+{
+    let bytes = read_bytes(alloc, files, path)?;
+    table_of(alloc, path, &bytes, old, new)
+}
+
+// The bytes of a file.
+fn read_bytes<F: Files>(alloc: Global, files: &mut F, path: &str) -> Result<Vec<u8>, Stop>
+    ensures bytes { IfSome (F.told files.old) (λ t. GivesBytes (λ bytes. bytes.items) path.now (content t path.now) result) }
+    ensures limit { IfOk result (λ bytes. length bytes.items ≤ FILE_LIMIT) }
+    ensures cause { HasCause (F.faults files.old) (F.faults files.new) result }
+    ensures same { F.told files.new ≡ F.told files.old }
+{
+    match read_all(alloc, files, path) {
+        Ok(bytes) => Ok(bytes),
+        Err(ReadFail::Failed) => Err(Stop::CannotRead {
+            path: Text::copy_of(alloc, path.as_bytes())?,
+        }),
+        Err(ReadFail::TooLong) => Err(Stop::TooLong {
+            path: Text::copy_of(alloc, path.as_bytes())?,
+        }),
+        Err(ReadFail::NoMemory) => Err(Stop::NoMemory),
+        Err(ReadFail::Absent) => Err(Stop::NotFound {
+            path: Text::copy_of(alloc, path.as_bytes())?,
+        }),
+    }
+}
+
+// The table that the bytes of a file say.
+fn table_of(
+    alloc: Global,
+    path: &str,
+    bytes: &[u8],
+    old: &[Loaded],
+    new: &[Loaded],
+) -> Result<LinkTable, Stop>
+    requires { length bytes.now ≤ 16777216 }
+    ensures names { IfOk result (λ table. length (table_names table) ≤ 16777216) }
+    ensures table { SaysTable path.now old.now new.now bytes.now result }
+{
+    match read_links(alloc, bytes) {
+        Ok(table) => checked(alloc, path, table, old, new),
+        Err(LinkFail::NoMemory) => Err(Stop::NoMemory),
+        Err(LinkFail::Refused { kind, line, word }) => Err(Stop::RefusedLinks {
+            path: Text::copy_of(alloc, path.as_bytes())?,
+            kind,
+            line,
+            word,
+        }),
+    }
+}
+
+// The table, where it has no segment, and nothing of it is refused for these networks.
+fn checked(
+    alloc: Global,
+    path: &str,
+    table: LinkTable,
+    old: &[Loaded],
+    new: &[Loaded],
+) -> Result<LinkTable, Stop>
+    requires { length (table_names table) ≤ 16777216 }
+    ensures names { IfOk result (λ answer. length (table_names answer) ≤ 16777216) }
+    ensures table { IsChecked path.now old.now new.now table result }
+{
+    if let Some(segment) = first_segment(table.lines.as_slice()) {
+        return Err(Stop::RefusedLinks {
+            path: Text::copy_of(alloc, path.as_bytes())?,
+            kind: LinkRefusal::BadWord,
+            line: segment.line,
+            word: Text::copy_of(alloc, kind_word(segment.kind).as_bytes())?,
+        });
+    }
+    match check(alloc, &table, old, new) {
+        Ok(()) => Ok(table),
+        Err(LinkFail::NoMemory) => Err(Stop::NoMemory),
+        Err(LinkFail::Refused { kind, line, word }) => Err(Stop::RefusedLinks {
+            path: Text::copy_of(alloc, path.as_bytes())?,
+            kind,
+            line,
+            word,
+        }),
+    }
+}
+
+// The first line with a segment.
+fn first_segment(lines: &[LinkLine]) -> Option<&LinkLine>
+    ensures { option_copied result ≡ first_segment lines.now }
+{
+    lines.iter().find(|line| is_segment(line))
+}
+
+fn is_segment(line: &LinkLine) -> bool
+    ensures { result ≡ is_segment line.now }
+{
+    match line.kind {
+        LinkKind::P2p => true,
+        LinkKind::Lan => true,
+        LinkKind::Ingress => false,
+    }
+}
+
+fn kind_word(kind: LinkKind) -> &'static str
+    ensures { result.now ≡ kind_word kind }
+{
+    match kind {
+        LinkKind::P2p => "p2p",
+        LinkKind::Lan => "lan",
+        LinkKind::Ingress => "ingress",
+    }
+}

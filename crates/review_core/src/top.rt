@@ -1,0 +1,127 @@
+ghost use Rattle.std.specs.Prelude.{◌≡◌, ◌≢◌, ◌⊎◌, ◌↔◌, ◌≤◌, ◌++◌, false, Err, IfSome, IfErr, map, string_bytes, option_map};
+ghost use Rattle.net_io.specs.Faults.{Rose};
+ghost use Rattle.net_io.specs.Sink.{TookPrefix};
+ghost use Rattle.review_core.specs.Causes.{HasCause};
+ghost use Rattle.review_core.specs.Words.{is_comparison};
+ghost use Rattle.review_core.specs.Stops.{status_of, line_of};
+ghost use Rattle.review_core.specs.Job.{Does, word_at, Wrote, WrotePart, StoppedWith, Said, Tells, status_of_report};
+
+use crate::comparison::{Report, compare_folders};
+use crate::stop::{NO_MEMORY, Stop};
+use crate::words::is_comparison;
+use net_io::{Files, Sink, write_all};
+use std::alloc::Global;
+
+/// What is written where the words are no command.
+pub const USAGE: &[u8] = b"usage:
+  compare OLD NEW LINKS [--workers N] [--ttl T]
+  ask NET LINKS QUESTIONS [--workers N] [--ttl T]
+  trace NET LINKS DEVICE INTERFACE HEADER [--ttl T]
+  read NET
+  gen NUMBER SIZE [--workers N]
+";
+
+/// What is written where the output took no more.
+const CANNOT_WRITE: &[u8] = b"cannot write\n";
+
+/// Does what the words of the command line ask, and answers the status.
+pub fn run<F: Files, O: Sink, E: Sink>(
+    alloc: Global,
+    words: &[String],
+    files: &mut F,
+    out: &mut O,
+    err: &mut E,
+) -> u8
+    // The words alone decide whether they are a command.
+    ensures usage { (result ≡ 2) ↔ (is_comparison (map string_bytes words.now) ≡ false) }
+    ensures usage_line { result ≡ 2 → Said USAGE.now (E.taken err.old) (E.taken err.new) (E.faults err.old) (E.faults err.new) }
+
+    // Statuses 0 and 1 come with exactly the report of the job, 1 exactly where it has a row.
+    ensures written { IfSome (F.told files.old) (λ t. (result ≡ 0) ⊎ (result ≡ 1)
+        → Wrote (map string_bytes words.now) t result (O.taken out.old) (O.taken out.new)) }
+
+    // At 6 a prefix of it was taken, and at all others nothing.
+    ensures part { IfSome (F.told files.old) (λ t. result ≡ 6
+        → WrotePart (map string_bytes words.now) t (O.taken out.old) (O.taken out.new)) }
+    ensures nothing { result ≢ 0 → result ≢ 1 → result ≢ 6 → O.taken out.new ≡ O.taken out.old }
+
+    // Statuses 3, 5 and 8 come by the first cause of the job, with its line.
+    ensures stopped { IfSome (F.told files.old) (λ t. (result ≡ 3) ⊎ ((result ≡ 5) ⊎ (result ≡ 8))
+        → StoppedWith (map string_bytes words.now) t result (E.taken err.old) (E.taken err.new) (E.faults err.old) (E.faults err.new)) }
+
+    // Faults are blamed only where they were counted.
+    ensures files { result ≡ 4 → Rose (F.faults files.old) (F.faults files.new) }
+    ensures out { result ≡ 6 → Rose (O.faults out.old) (O.faults out.new) }
+    ensures statuses { result ≤ 8 }
+{
+    if !is_comparison(words) {
+        return refuse(err);
+    }
+    match report(alloc, words, files) {
+        Ok(report) => write_report(&report, out, err),
+        Err(stop) => tell(alloc, &stop, err),
+    }
+}
+
+// The report that the words ask for.
+fn report<F: Files>(alloc: Global, words: &[String], files: &mut F) -> Result<Report, Stop>
+    ensures job { IfSome (F.told files.old) (λ t. Does (map string_bytes words.now) t result) }
+    ensures cause { HasCause (F.faults files.old) (F.faults files.new) result }
+{
+    let old = word_at(words, 1);
+    let new = word_at(words, 2);
+    let links = word_at(words, 3);
+    compare_folders(alloc, files, old, new, links)
+}
+
+fn word_at(words: &[String], i: usize) -> &str
+    ensures { result.now ≡ word_at (map string_bytes words.now) i }
+{
+    match words.get(i) {
+        Some(word) => word.as_str(),
+        None => "",
+    }
+}
+
+// The words are no command.
+fn refuse<E: Sink>(err: &mut E) -> u8
+    ensures status { result ≡ 2 }
+    ensures line { Said USAGE.now (E.taken err.old) (E.taken err.new) (E.faults err.old) (E.faults err.new) }
+{
+    say(err, USAGE);
+    2
+}
+
+// Writes the report, and answers whether it has a row.
+fn write_report<O: Sink, E: Sink>(report: &Report, out: &mut O, err: &mut E) -> u8
+    ensures written { (result ≡ 6) ⊎ ((result ≡ status_of_report report.now) × (O.taken out.new ≡ option_map (λ taken. taken ++ report.now.text.items) (O.taken out.old))) }
+    ensures part { result ≡ 6 → TookPrefix (O.taken out.old) report.now.text.items (O.taken out.new) }
+    ensures cause { result ≡ 6 → Rose (O.faults out.old) (O.faults out.new) }
+{
+    match write_all(out, &report.text) {
+        Ok(()) => u8::from(report.affected),
+        Err(_) => {
+            say(err, CANNOT_WRITE);
+            6
+        }
+    }
+}
+
+// Says why there is no report.
+fn tell<E: Sink>(alloc: Global, stop: &Stop, err: &mut E) -> u8
+    ensures { Tells stop.now result (E.taken err.old) (E.taken err.new) (E.faults err.old) (E.faults err.new) }
+{
+    let Ok(line) = stop.line(alloc) else {
+        say(err, NO_MEMORY);
+        return 7;
+    };
+    say(err, &line);
+    stop.status()
+}
+
+// A line on the error output. Where that fails, the status tells the cause alone.
+fn say<E: Sink>(err: &mut E, line: &[u8])
+    ensures { Said line.now (E.taken err.old) (E.taken err.new) (E.faults err.old) (E.faults err.new) }
+{
+    let _ = write_all(err, line);
+}

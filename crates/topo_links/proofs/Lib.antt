@@ -1,0 +1,8 @@
+pub mod Keys
+pub mod Reading
+pub mod Effects
+pub mod NameOrder
+pub mod Finds
+pub mod LeastShared
+pub mod TextSize
+pub mod TableSize
