@@ -13,13 +13,15 @@ use Rattle.hdr_bits.proofs.Numbers.{number-header_of, header_of-is_header}
 use Rattle.cube_alg.proofs.MaskLemmas.{least_holds}
 use Rattle.cube_alg.proofs.SplitLemmas.{free_zero}
 use Rattle.cube_alg.proofs.StampLemmas.{bits_below}
+use Rattle.cube_alg.specs.Stamps.{applied}
+use Rattle.std.proofs.lemmas.Option.{slice_get_past}
 use Rattle.net_types.specs.declared.config.NatRule.{NatRule}
 use Rattle.nat_static.specs.declared.rules.Direction.{Direction}
 use Rattle.nat_static.specs.declared.rules.Direction.TheVariants.{FromOutside, FromInside}
-use Rattle.nat_static.specs.Rules.{rule_stamp, fits, applying, stamp_of, stamp_at}
+use Rattle.nat_static.specs.Rules.{rule_stamp, fits, applying, translated, stamp_of, stamp_at, stamp_if}
 use Rattle.nat_static.specs.Pieces.{ReplacesFixed}
 use Rattle.nat_static.proofs.SideLemmas.{side_address, side_port}
-use Rattle.nat_static.proofs.RuleLemmas.{rule_fits}
+use Rattle.nat_static.proofs.RuleLemmas.{rule_fits, stamp_right}
 
 -- a place that is `*` lets the header's bit be 1
 abbrev with_one : Cube → ℕ → ℕ
@@ -85,3 +87,15 @@ fixed_case d rules n c (Some r) e f =
 
 pub stamp_fixed : (d : Direction) (rules : List NatRule) (n : ℕ) (c : Cube) → ((h : Header) → IsHeader h → IsIn c (number h) → option_or (applying d rules h) (Some (length rules)) ≡ Some n) → ReplacesFixed (stamp_at (rule_stamp d) rules n) c
 stamp_fixed d rules n c f = fixed_case d rules n c (slice_get rules n) refl f
+
+-- the same for the optional number of the rule that applies
+pub right_if : (d : Direction) (rules : List NatRule) (h : Header) (o : Option ℕ) → applying d rules h ≡ o → applied (stamp_if (rule_stamp d) rules o) h ≡ translated d rules h
+right_if d rules h None e =
+    let l : length rules ≤ length rules = omega arith in
+    ap (λ x. applied (stamp_of (rule_stamp d) x) h) (sym (slice_get_past rules (length rules) l)) ∙ stamp_right d rules h (length rules) (ap (λ x. option_or x (Some (length rules))) e)
+right_if d rules h (Some n) e = stamp_right d rules h n (ap (λ x. option_or x (Some (length rules))) e)
+
+pub fixed_if : (d : Direction) (rules : List NatRule) (c : Cube) (o : Option ℕ) → ((h : Header) → IsHeader h → IsIn c (number h) → applying d rules h ≡ o) → ReplacesFixed (stamp_if (rule_stamp d) rules o) c
+fixed_if d rules c None f = none_fixed c
+fixed_if d rules c (Some n) f =
+    stamp_fixed d rules n c (λ h valid i. ap (λ x. option_or x (Some (length rules))) (f h valid i))

@@ -63,3 +63,8 @@ stamp_of stamp (Some r) = stamp r
 -- the stamp of the rule with this number; without such a rule nothing is replaced
 abbrev pub stamp_at : (NatRule → Stamp) → List NatRule → ℕ → Stamp
 stamp_at stamp rules n = stamp_of stamp (slice_get rules n)
+
+-- the same for an optional number
+abbrev pub stamp_if : (NatRule → Stamp) → List NatRule → Option ℕ → Stamp
+stamp_if stamp rules None = no_stamp
+stamp_if stamp rules (Some n) = stamp_at stamp rules n

@@ -1,14 +1,14 @@
 //! All headers at once.
 
-ghost use Rattle.std.specs.Prelude.{◌≡◌, ◌<◌, ℕ, Some, map, length, All, AllPairs, Any, IfOk, OnOk};
-ghost use Rattle.std.specs.Option.{option_or};
+ghost use Rattle.std.specs.Prelude.{◌≡◌, map, All, AllPairs, Any, IfOk, OnOk};
 ghost use Rattle.hdr_bits.specs.declared.header.Header.{Header};
+ghost use Rattle.hdr_bits.specs.declared.cube.Cube.{Cube};
 ghost use Rattle.hdr_bits.specs.HeaderBits.{number, IsHeader};
 ghost use Rattle.hdr_bits.specs.CubeBits.{IsIn};
 ghost use Rattle.cube_alg.specs.Pieces.{value_of};
 ghost use Rattle.cube_alg.specs.Stamps.{applied};
 ghost use Rattle.net_types.specs.Translation.{from_outside, from_inside};
-ghost use Rattle.nat_static.specs.Rules.{outside_stamp, inside_stamp, rule_from_outside, rule_from_inside, rule_stamp, stamp_at, applying, translated};
+ghost use Rattle.nat_static.specs.Rules.{outside_stamp, inside_stamp, rule_from_outside, rule_from_inside, rule_stamp, stamp_at, stamp_if, applying, translated};
 ghost use Rattle.nat_static.specs.Pieces.{ReplacesFixed, AreApartStamps, Translates, AddsRules};
 
 use crate::plain::is_plain;
@@ -61,22 +61,28 @@ pub fn inside_pieces(alloc: Global, rules: &[NatRule]) -> Result<Vec<Piece>, NoM
     Ok(pieces)
 }
 
-/// What the rule with this number replaces from outside: its local side as the destination. Nothing where
-/// there is no such rule.
-pub fn outside_stamp(rules: &[NatRule], number: u32) -> Stamp
-    ensures stamp { result ≡ stamp_at outside_stamp rules.now number }
-    ensures applies { (h : Header) → rule_from_outside rules.now h ≡ Some number → applied result h ≡ from_outside rules.now h }
+/// What the rule with this number replaces from outside: its local side as the destination. Nothing is
+/// replaced without a number, which is so where no rule applies, or where there is no such rule.
+pub fn outside_stamp(rules: &[NatRule], rule: Option<u32>) -> Stamp
+    ensures stamp { result ≡ stamp_if outside_stamp rules.now rule }
+    ensures applies { (h : Header) → rule_from_outside rules.now h ≡ rule → applied result h ≡ from_outside rules.now h }
+
+    // Where the rule applies to each header of a cube, the cube fixes what the rule replaces.
+    ensures fixed { (c : Cube) → ((h : Header) → IsHeader h → IsIn c (number h) → rule_from_outside rules.now h ≡ rule) → ReplacesFixed result c }
 {
-    stamp_at(Direction::FromOutside, rules, number)
+    stamp_if(Direction::FromOutside, rules, rule)
 }
 
-/// What the rule with this number replaces from inside: its global side as the source. Nothing where there is
-/// no such rule.
-pub fn inside_stamp(rules: &[NatRule], number: u32) -> Stamp
-    ensures stamp { result ≡ stamp_at inside_stamp rules.now number }
-    ensures applies { (h : Header) → rule_from_inside rules.now h ≡ Some number → applied result h ≡ from_inside rules.now h }
+/// What the rule with this number replaces from inside: its global side as the source. Nothing is replaced
+/// without a number, which is so where no rule applies, or where there is no such rule.
+pub fn inside_stamp(rules: &[NatRule], rule: Option<u32>) -> Stamp
+    ensures stamp { result ≡ stamp_if inside_stamp rules.now rule }
+    ensures applies { (h : Header) → rule_from_inside rules.now h ≡ rule → applied result h ≡ from_inside rules.now h }
+
+    // Where the rule applies to each header of a cube, the cube fixes what the rule replaces.
+    ensures fixed { (c : Cube) → ((h : Header) → IsHeader h → IsIn c (number h) → rule_from_inside rules.now h ≡ rule) → ReplacesFixed result c }
 {
-    stamp_at(Direction::FromInside, rules, number)
+    stamp_if(Direction::FromInside, rules, rule)
 }
 
 fn compile(
@@ -140,6 +146,16 @@ fn add_rules(
         pieces.push(Piece { cube, value })?;
     }
     Ok(())
+}
+
+// The stamp of the rule with this number, if there is one.
+fn stamp_if(direction: Direction, rules: &[NatRule], rule: Option<u32>) -> Stamp
+    ensures { result ≡ stamp_if (rule_stamp direction) rules.now rule }
+{
+    match rule {
+        Some(number) => stamp_at(direction, rules, number),
+        None => Stamp::none(),
+    }
 }
 
 // The stamp of the rule with this number.

@@ -77,11 +77,8 @@ mod tests {
                 .iter()
                 .filter(|p| p.0.contains(&h) && p.1.apply(&h) == translated);
             assert_eq!(rt; right.count(), 1);
-            let number = match pieces.iter().find(|p| p.cube.contains(&h)) {
-                Some(piece) => piece.value,
-                None => u32::MAX,
-            };
-            assert_eq!(rt; outside_stamp(&rules, number).apply(&h), translated);
+            let rule = pieces.iter().find(|p| p.cube.contains(&h)).map(|p| p.value);
+            assert_eq!(rt; outside_stamp(&rules, rule).apply(&h), translated);
         }
         Ok(())
     }
@@ -119,11 +116,8 @@ mod tests {
                 .iter()
                 .filter(|p| p.0.contains(&h) && p.1.apply(&h) == translated);
             assert_eq!(rt; right.count(), 1);
-            let number = match pieces.iter().find(|p| p.cube.contains(&h)) {
-                Some(piece) => piece.value,
-                None => u32::MAX,
-            };
-            assert_eq!(rt; inside_stamp(&rules, number).apply(&h), translated);
+            let rule = pieces.iter().find(|p| p.cube.contains(&h)).map(|p| p.value);
+            assert_eq!(rt; inside_stamp(&rules, rule).apply(&h), translated);
         }
         Ok(())
     }

@@ -1,37 +1,26 @@
--- Two headers have the same label at a lone plain device, where the prefixes that it looks for don't tell their
--- destinations apart.
-use Rattle.std.proofs.Common.{ℕ, zero, suc, ◌≡◌, ◌<◌, ◌≤◌, ◌^◌, ◌+◌, ◌*◌, ◌-◌, ◌/◌, ◌%◌, ◌==◌, Bool, true, false, cond, not, ◌&&◌, ◌||◌, nat_lt, List, [], ◌∷◌, ◌++◌, length, map, Option, Some, None, slice_get, refl, ap, sym, ◌∙◌, subst, arith}
-use Rattle.std.specs.Prelude.{filter, filter_map, flat_map, find, position, nat_le, option_map, option_and_then, Decides}
-use Rattle.std.specs.List.{AllByRecursion, list_any, list_all, cons_option, prefix_len}
+-- Two destinations have the same outcomes at a plain device, where the prefixes that it looks for don't tell them apart.
+use Rattle.std.proofs.Common.{ℕ, zero, suc, ◌≡◌, ◌<◌, ◌≤◌, ◌^◌, ◌+◌, ◌*◌, ◌-◌, ◌/◌, ◌%◌, ◌==◌, Bool, cond, not, ◌&&◌, ◌||◌, nat_lt, List, [], ◌∷◌, ◌++◌, length, map, Option, Some, None, refl, ap, sym, ◌∙◌, subst, arith}
+use Rattle.std.specs.Prelude.{filter, flat_map, position, nat_le, option_and_then, Decides}
+use Rattle.std.specs.List.{AllByRecursion, list_any, prefix_len}
 use Rattle.std.proofs.lemmas.Bool.Decides.{same_from_decides, Decides-eqb, Decides-like, nat_tests}
 use Rattle.std.proofs.lemmas.List.{map-append}
-use Rattle.hdr_bits.specs.declared.header.Header.{Header}
-use Rattle.hdr_bits.specs.HeaderBits.{header_of}
 use Rattle.net_types.specs.declared.config.Interface.{Interface}
-use Rattle.net_types.specs.declared.config.NatRule.{NatRule}
 use Rattle.net_types.specs.declared.config.Route.{Route}
 use Rattle.net_types.specs.declared.config.RouteExit.{RouteExit}
 use Rattle.net_types.specs.declared.config.RouteExit.TheVariants as exit
 use Rattle.net_types.specs.declared.config.Subnet.{Subnet}
 use Rattle.net_types.specs.declared.label.Outcome.{Outcome}
-use Rattle.net_types.specs.declared.label.Outcome.TheVariants as outcome
+use Rattle.net_types.specs.declared.label.Outcome.TheVariants.{Dropped}
 use Rattle.net_types.specs.declared.network.Hop.{Hop}
-use Rattle.net_types.specs.declared.network.Hop.TheVariants.{Discard, Out}
-use Rattle.net_types.specs.declared.network.Move.{Move}
-use Rattle.net_types.specs.declared.network.Move.TheVariants.{Drop, Local, Lost, Exit}
 use Rattle.net_types.specs.declared.network.NetDevice.{NetDevice}
-use Rattle.net_types.specs.declared.network.Place.{Place}
-use Rattle.net_types.specs.Routes.{prefix_number, same_text, network_of, live_subnets, is_enabled, has_address, installed, rib_of, route_holds, is_longest, best, exit_hops, or_discard, route_hops, hops_within, hops}
-use Rattle.net_types.specs.Translation.{from_inside, from_outside}
-use Rattle.net_types.specs.World.{World, Port, port_in, port_numbered, port_at, port_named, segment_of, same_place}
-use Rattle.net_types.specs.Moves.{passes_list, is_inside, is_outside, lets_in, coming_in, is_reserved, is_broadcast, has_broadcast, is_dropped, owns, owner, send, going_out, leave_with, leave, leave_if_any, move_by, local_or_forward, moves_in, moves_at}
+use Rattle.net_types.specs.Routes.{prefix_number, network_of, live_subnets, is_enabled, has_address, route_holds, is_longest, best, exit_hops, or_discard, route_hops, hops_within, hops}
+use Rattle.net_types.specs.World.{Port, port_in}
+use Rattle.net_types.specs.Moves.{is_reserved, is_broadcast, has_broadcast, is_dropped, owns, owner}
 use Rattle.net_types.specs.Order.{in_order, outcome_cmp}
-use Rattle.net_types.specs.Report.{affected, labels_if_other}
-use Rattle.net_types.specs.Walks.{End, exit as left_network, end_of, changed, outcome_of, label}
-use Rattle.net_types.proofs.Single.{label_alone}
+use Rattle.net_types.specs.Report.{labels_if_other}
 use Rattle.net_compare.specs.declared.prefix.Prefix.{Prefix}
-use Rattle.net_compare.specs.Plain.{has_no_list, has_no_rule, is_plain_interface, is_plain_device, IsPlainNetwork}
-use Rattle.net_compare.specs.Prefixes.{holds, just, reserved, greatest, of_subnet, of_interface, of_route, of_port, looked_for, AreAlike}
+use Rattle.net_compare.specs.LoneDevice.{PortAndRib, by_choice, local_or_sent, taken_in, outcomes_at, header_labels}
+use Rattle.net_compare.specs.Prefixes.{holds, just, reserved, greatest, of_subnet, of_interface, of_route, looked_for, AreAlike}
 use Rattle.net_compare.proofs.CubeOfPrefix.{power_positive}
 use Rattle.net_compare.proofs.PartLemmas.{split_all}
 
@@ -101,246 +90,71 @@ module _ (a b : ℕ) where
   best_same : (rs : List Route) → AllByRecursion Alike (map of_route rs) → best rs a ≡ best rs b
   best_same rs h = ap (λ hits. filter (is_longest hits) hits) (holding rs h)
 
--- ---- the choices of a lookup by their interfaces
+-- ---- the choices of a lookup, by their interfaces
 
-abbrev named : Hop → Option (List ℕ)
-named Discard = None
-named (Out name next) = Some name
+module _ (last : Bool) (d : NetDevice) where
+  abbrev ends : List Hop → List Outcome
+  ends hs = map (by_choice last d) hs
 
-named_flat : (f g : Route → List Hop) → ((r : Route) → map named (f r) ≡ map named (g r)) → (rs : List Route) → map named (flat_map f rs) ≡ map named (flat_map g rs)
-named_flat f g e [] = refl
-named_flat f g e (r ∷ rs) =
-    let one = e r in
-    let more = named_flat f g e rs in
-    map-append named (f r) (flat_map f rs) ∙ (λ i. one i ++ more i) ∙ sym (map-append named (g r) (flat_map g rs))
+  ends_flat : (f g : Route → List Hop) → ((r : Route) → ends (f r) ≡ ends (g r)) → (rs : List Route) → ends (flat_map f rs) ≡ ends (flat_map g rs)
+  ends_flat f g e [] = refl
+  ends_flat f g e (r ∷ rs) =
+      let one = e r in
+      let more = ends_flat f g e rs in
+      map-append (by_choice last d) (f r) (flat_map f rs) ∙ (λ i. one i ++ more i) ∙ sym (map-append (by_choice last d) (g r) (flat_map g rs))
 
-named_or : (xs ys : List Hop) → map named xs ≡ map named ys → map named (or_discard xs) ≡ map named (or_discard ys)
-named_or [] [] e = refl
-named_or [] (y ∷ ys) e = absurd cc
-named_or (x ∷ xs) [] e = absurd cc
-named_or (x ∷ xs) (y ∷ ys) e = e
+  ends_or : (xs ys : List Hop) → ends xs ≡ ends ys → ends (or_discard xs) ≡ ends (or_discard ys)
+  ends_or [] [] e = refl
+  ends_or [] (y ∷ ys) e = absurd cc
+  ends_or (x ∷ xs) [] e = absurd cc
+  ends_or (x ∷ xs) (y ∷ ys) e = e
 
-named_exit : (again : ℕ → List Hop) (a b : ℕ) (x : RouteExit) → map named (exit_hops again a x) ≡ map named (exit_hops again b x)
-named_exit again a b exit.Null = refl
-named_exit again a b (exit.Port name) = refl
-named_exit again a b (exit.Both name next) = refl
-named_exit again a b (exit.Next next) = refl
+  -- the next hop of a route is looked up alike for all destinations
+  ends_exit : (again : ℕ → List Hop) (a b : ℕ) (x : RouteExit) → ends (exit_hops again a x) ≡ ends (exit_hops again b x)
+  ends_exit again a b exit.Null = refl
+  ends_exit again a b (exit.Port name) = refl
+  ends_exit again a b (exit.Both name next) = refl
+  ends_exit again a b (exit.Next next) = refl
 
--- the next hop of a route is looked up alike for all addresses
-named_hops : (rs : List Route) (n a b : ℕ) → best rs a ≡ best rs b → map named (hops_within rs n a) ≡ map named (hops_within rs n b)
-named_hops rs zero a b e = refl
-named_hops rs (suc n) a b e =
-    let again : ℕ → List Hop = λ x. hops_within rs n x in
-    named_or (flat_map (route_hops again a) (best rs a)) (flat_map (route_hops again b) (best rs b))
-    (named_flat (route_hops again a) (route_hops again b) (λ r. named_exit again a b r.exit) (best rs a) ∙ ap (λ bs. map named (flat_map (route_hops again b) bs)) e)
+  ends_hops : (rs : List Route) (n a b : ℕ) → best rs a ≡ best rs b → ends (hops_within rs n a) ≡ ends (hops_within rs n b)
+  ends_hops rs zero a b e = refl
+  ends_hops rs (suc n) a b e =
+      let again : ℕ → List Hop = λ x. hops_within rs n x in
+      ends_or (flat_map (route_hops again a) (best rs a)) (flat_map (route_hops again b) (best rs b))
+      (ends_flat (route_hops again a) (route_hops again b) (λ r. ends_exit again a b r.exit) (best rs a) ∙ ap (λ bs. ends (flat_map (route_hops again b) bs)) e)
 
--- ---- plain devices
+-- ---- the outcomes
 
-no_list : (o : Option (List ℕ)) → has_no_list o ≡ true → o ≡ None
-no_list None e = refl
-no_list (Some name) e = absurd cc
+module _ (last : Bool) (a b : ℕ) (la : a < 2 ^ 32) (lb : b < 2 ^ 32) where
+  sent_same : (i : PortAndRib) → best i.1.routes a ≡ best i.1.routes b → (own : Option Port) → local_or_sent last i.0.device (hops i.1 a) own ≡ local_or_sent last i.0.device (hops i.1 b) own
+  sent_same i e (Some own) = refl
+  sent_same i e None = ends_hops last i.0.device i.1.routes i.1.count a b e
 
-no_rule : (rules : List NatRule) → has_no_rule rules ≡ true → rules ≡ []
-no_rule [] e = refl
-no_rule (rule ∷ rules) e = absurd cc
+  taken_same : (i : PortAndRib) → AreAlike (looked_for (Some i)) a b → taken_in last i a ≡ taken_in last i b
+  taken_same i alike =
+      let c = i.0.device.config in
+      let parts = split_all (Alike a b) (flat_map of_interface i.0.device.config.interfaces) (map of_route i.1.routes) alike.1 in
+      let one = sym (reserved_test a la) ∙ alike.0 ∙ reserved_test b lb in
+      let more = interfaces_broadcast a b i.0.device.config.interfaces parts.0 in
+      let dropped : is_dropped i.0.device.config a ≡ is_dropped i.0.device.config b = λ k. one k || more k in
+      let own : owner i.0 a ≡ owner i.0 b = ap (option_and_then (port_in i.0.device)) (owning a b i.0.device.config.interfaces parts.0) in
+      (λ k. cond (dropped k) (Dropped ∷ []) (local_or_sent last i.0.device (hops i.1 a) (own k)))
+      ∙ ap (λ os. cond (is_dropped i.0.device.config b) (Dropped ∷ []) os) (sent_same i (best_same a b i.1.routes parts.1) (owner i.0 b))
 
-both_true : (x y : Bool) → (x && y) ≡ true → (x ≡ true) × (y ≡ true)
-both_true true y e = (refl, e)
-both_true false y e = absurd cc
+  outcomes_same : (o : Option PortAndRib) → AreAlike (looked_for o) a b → outcomes_at last o a ≡ outcomes_at last o b
+  outcomes_same None alike = refl
+  outcomes_same (Some i) alike = ap (λ os. cond (is_enabled i.0.interface) os (Dropped ∷ [])) (taken_same i alike)
 
-get_passes : {X : Type 0} (q : X → Bool) (xs : List X) (i : ℕ) (x : X) → list_all q xs ≡ true → slice_get xs i ≡ Some x → q x ≡ true
-get_passes q [] i x h e = absurd cc
-get_passes q (y ∷ xs) zero x h e = let same : y ≡ x = cc in subst (λ z. q z ≡ true) same (both_true (q y) (list_all q xs) h).0
-get_passes q (y ∷ xs) (suc i) x h e = get_passes q xs i x (both_true (q y) (list_all q xs) h).1 e
-
-find_passes : {X : Type 0} (q p : X → Bool) (xs : List X) (x : X) → list_all q xs ≡ true → find p xs ≡ Some x → q x ≡ true
-find_passes q p [] x h e = absurd cc
-find_passes q p (y ∷ xs) x h e =
-    let b = both_true (q y) (list_all q xs) h in
-    (elim (p y) as (λ t. cond t (Some y) (find p xs) ≡ Some x → q x ≡ true) [
-      | true ↦ λ g. let same : y ≡ x = cc in subst (λ z. q z ≡ true) same b.0
-      | false ↦ λ g. find_passes q p xs x b.1 g
-    ]) e
-
--- an interface of a plain device
-record IsPlainPort (port : Port) : Type 0 where
-  device : is_plain_device port.device ≡ true
-  interface : is_plain_interface port.interface ≡ true
-
-plain_in : (d : NetDevice) → is_plain_device d ≡ true → (i : ℕ) (port : Port) → port_in d i ≡ Some port → IsPlainPort port
-plain_in d h i port e =
-    by_parts (slice_get d.config.interfaces i) (slice_get d.numbers i) (λ f g. get_passes is_plain_interface d.config.interfaces i f (both_true (has_no_rule d.config.nat) (list_all is_plain_interface d.config.interfaces) h).1 g) e
-  where
-    by_parts : (o : Option Interface) (n : Option ℕ) → ((f : Interface) → o ≡ Some f → is_plain_interface f ≡ true) → option_and_then (λ (f : Interface). option_map (λ (m : ℕ). let p : Port = record { place = record { device = d.name; interface = m }; device = d; interface = f } in p) n) o ≡ Some port → IsPlainPort port
-    by_parts None n k e = absurd cc
-    by_parts (Some f) None k e = absurd cc
-    by_parts (Some f) (Some m) k e =
-        let p : Port = record { place = record { device = d.name; interface = m }; device = d; interface = f } in
-        let same : p ≡ port = cc in
-        subst (λ (q : Port). IsPlainPort q) same (record { device = h; interface = k f refl })
-
-plain_at : (d : NetDevice) → is_plain_device d ≡ true → (o : Option ℕ) (port : Port) → option_and_then (port_in d) o ≡ Some port → IsPlainPort port
-plain_at d h None port e = absurd cc
-plain_at d h (Some i) port e = plain_in d h i port e
-
-plain_place : (w : World) → IsPlainNetwork w.network → (p : Place) (port : Port) → port_at w p ≡ Some port → IsPlainPort port
-plain_place w h p port e =
-    by_device (find (λ d. d.name == p.device) w.network.devices) (λ d g. find_passes is_plain_device (λ d. d.name == p.device) w.network.devices d h g) e
-  where
-    by_device : (o : Option NetDevice) → ((d : NetDevice) → o ≡ Some d → is_plain_device d ≡ true) → option_and_then (λ (d : NetDevice). port_numbered d p.interface) o ≡ Some port → IsPlainPort port
-    by_device None k e = absurd cc
-    by_device (Some d) k e = plain_at d (k d refl) (position (λ n. n == p.interface) d.numbers) port e
-
--- ---- the outcomes of its moves
-
-same_either : (t : Bool) (h : Header) → cond t h h ≡ h
-same_either true h = refl
-same_either false h = refl
-
--- what would be sent on expires where the TTL is 1
-abbrev ending : Bool → Outcome → Outcome
-ending true o = outcome.Expired
-ending false o = o
-
-abbrev left_by : Bool → Option Port → Outcome
-left_by last None = ending last outcome.Dropped
-left_by last (Some out) = ending last (outcome.Exit out.place None None None None)
-
-abbrev by_name : Bool → NetDevice → Option (List ℕ) → Outcome
-by_name last d None = outcome.Dropped
-by_name last d (Some name) = left_by last (port_named d name)
-
-abbrev outcomes : Bool → Header → List Move → List Outcome
-outcomes last h ms = map (outcome_of h) (filter_map (end_of last) ms)
-
-unchanged : (x : ℕ) → changed x x ≡ None
-unchanged x = ap (λ t. cond t None (Some x)) ((Decides-eqb x x).1 refl)
-
-all_unchanged : (p : Place) (h : Header) → outcome_of h (left_network p h) ≡ outcome.Exit p None None None None
-all_unchanged p h = λ i. outcome.Exit p (unchanged h.src i) (unchanged h.dst i) (unchanged h.sport i) (unchanged h.dport i)
-
-module _ (w : World) (alone : w.links.segments ≡ []) (last : Bool) where
-  no_segment : (p : Place) → segment_of w p ≡ None
-  no_segment p = ap (find (λ s. list_any (same_place p) s.ends)) alone
-
-  module _ (port : Port) (plain : IsPlainPort port) where
-    no_rules : port.device.config.nat ≡ []
-    no_rules = no_rule port.device.config.nat (both_true (has_no_rule port.device.config.nat) (list_all is_plain_interface port.device.config.interfaces) plain.device).0
-
-    comes_in : (h : Header) → coming_in port h ≡ h
-    comes_in h = ap (λ rules. cond (is_outside port.interface.side) (from_outside rules h) h) no_rules ∙ same_either (is_outside port.interface.side) h
-
-    goes_out : (out : Port) (h : Header) → going_out port out h ≡ h
-    goes_out out h =
-        ap (λ rules. cond (is_inside port.interface.side && is_outside out.interface.side) (from_inside rules h) h) no_rules ∙ same_either (is_inside port.interface.side && is_outside out.interface.side) h
-
-    leaves : (h : Header) (a : ℕ) (out : Port) → out.interface.output ≡ None → leave w port h a out ≡ Exit out.place h
-    leaves h a out e =
-        ap (λ g. leave_with w port g a out) (goes_out out h)
-        ∙ ap (λ list. cond (passes_list port.device.config list h) (send w out.place a h (segment_of w out.place)) Lost) e
-        ∙ ap (send w out.place a h) (no_segment out.place)
-
-    exits : (p : Place) (h : Header) → option_map (outcome_of h) (end_of last (Exit p h)) ≡ Some (ending last (outcome.Exit p None None None None))
-    exits p h = elim last as (λ b. option_map (outcome_of h) (end_of b (Exit p h)) ≡ Some (ending b (outcome.Exit p None None None None))) [ true ↦ refl | false ↦ ap Some (all_unchanged p h) ]
-
-    leaves_by : (h : Header) (a : ℕ) (o : Option Port) → ((out : Port) → o ≡ Some out → IsPlainPort out) → option_map (outcome_of h) (end_of last (leave_if_any w port h a o)) ≡ Some (left_by last o)
-    leaves_by h a None k = elim last as (λ b. option_map (outcome_of h) (end_of b Lost) ≡ Some (left_by b None)) [ true ↦ refl | false ↦ refl ]
-    leaves_by h a (Some out) k =
-        let q = k out refl in
-        let e = no_list out.interface.output (both_true (has_no_list out.interface.input) (has_no_list out.interface.output) q.interface).1 in
-        ap (λ m. option_map (outcome_of h) (end_of last m)) (leaves h a out e) ∙ exits out.place h
-
-    by_hop : (h : Header) (hop : Hop) → option_map (outcome_of h) (end_of last (move_by w port h hop)) ≡ Some (by_name last port.device (named hop))
-    by_hop h Discard = elim last as (λ b. option_map (outcome_of h) (end_of b Drop) ≡ Some outcome.Dropped) [ true ↦ refl | false ↦ refl ]
-    by_hop h (Out name a) =
-        leaves_by h a (port_named port.device name) (λ out e. plain_at port.device plain.device (position (λ f. same_text f.name name) port.device.config.interfaces) out e)
-
-    one_more : (h : Header) (o : Option End) (es : List End) (x : Outcome) (xs : List Outcome) → option_map (outcome_of h) o ≡ Some x → map (outcome_of h) es ≡ xs → map (outcome_of h) (cons_option o es) ≡ x ∷ xs
-    one_more h None es x xs e more = absurd cc
-    one_more h (Some y) es x xs e more = let one : outcome_of h y ≡ x = cc in λ i. one i ∷ more i
-
-    forwards : (h : Header) (hs : List Hop) → outcomes last h (map (move_by w port h) hs) ≡ map (by_name last port.device) (map named hs)
-    forwards h [] = refl
-    forwards h (hop ∷ hs) =
-        one_more h (end_of last (move_by w port h hop)) (filter_map (end_of last) (map (move_by w port h) hs)) (by_name last port.device (named hop)) (map (by_name last port.device) (map named hs)) (by_hop h hop) (forwards h hs)
-
-    module _ (h g : Header) where
-      drops : outcomes last h (Drop ∷ []) ≡ outcomes last g (Drop ∷ [])
-      drops = elim last as (λ b. outcomes b h (Drop ∷ []) ≡ outcomes b g (Drop ∷ [])) [ true ↦ refl | false ↦ refl ]
-
-      stays : (p : Place) → outcomes last h (Local p ∷ []) ≡ outcomes last g (Local p ∷ [])
-      stays p = elim last as (λ b. outcomes b h (Local p ∷ []) ≡ outcomes b g (Local p ∷ [])) [ true ↦ refl | false ↦ refl ]
-
-      picks : (t : Bool) (xs ys us vs : List Move) → outcomes last h xs ≡ outcomes last g us → outcomes last h ys ≡ outcomes last g vs → outcomes last h (cond t xs ys) ≡ outcomes last g (cond t us vs)
-      picks true xs ys us vs e f = e
-      picks false xs ys us vs e f = f
-
-      local_or_forwards : (own : Option Port) → best (installed port.device.config) h.dst ≡ best (installed port.device.config) g.dst → outcomes last h (local_or_forward w port h own) ≡ outcomes last g (local_or_forward w port g own)
-      local_or_forwards (Some own) e = stays own.place
-      local_or_forwards None e =
-          let rib = rib_of port.device.config in
-          forwards h (hops rib h.dst) ∙ ap (map (by_name last port.device)) (named_hops rib.routes rib.count h.dst g.dst e) ∙ sym (forwards g (hops rib g.dst))
-
-      module _ (lh : h.dst < 2 ^ 32) (lg : g.dst < 2 ^ 32) (alike : AreAlike (of_port (Some port)) h.dst g.dst) where
-        parts : AreAlike (flat_map of_interface port.device.config.interfaces) h.dst g.dst × AreAlike (map of_route (installed port.device.config)) h.dst g.dst
-        parts = split_all (Alike h.dst g.dst) (flat_map of_interface port.device.config.interfaces) (map of_route (installed port.device.config)) alike.1
-
-        dropped_same : is_dropped port.device.config h.dst ≡ is_dropped port.device.config g.dst
-        dropped_same =
-            let one = sym (reserved_test h.dst lh) ∙ alike.0 ∙ reserved_test g.dst lg in
-            let more = interfaces_broadcast h.dst g.dst port.device.config.interfaces parts.0 in
-            λ i. one i || more i
-
-        owner_same : owner port h.dst ≡ owner port g.dst
-        owner_same = ap (option_and_then (port_in port.device)) (owning h.dst g.dst port.device.config.interfaces parts.0)
-
-        moves_in_same : outcomes last h (moves_in w port h) ≡ outcomes last g (moves_in w port g)
-        moves_in_same =
-            let d = dropped_same in
-            let o = owner_same in
-            (λ i. outcomes last h (cond (d i) (Drop ∷ []) (local_or_forward w port h (o i))))
-            ∙ picks (is_dropped port.device.config g.dst) (Drop ∷ []) (local_or_forward w port h (owner port g.dst)) (Drop ∷ []) (local_or_forward w port g (owner port g.dst)) drops (local_or_forwards (owner port g.dst) (best_same h.dst g.dst (installed port.device.config) parts.1))
-
-        let_in : (k : Header) → lets_in port k ≡ (is_enabled port.interface && true)
-        let_in k =
-            let e = no_list port.interface.input (both_true (has_no_list port.interface.input) (has_no_list port.interface.output) plain.interface).0 in
-            ap (λ list. is_enabled port.interface && passes_list port.device.config list k) e
-
-        moves_at_same : outcomes last h (moves_at w (Some port) h) ≡ outcomes last g (moves_at w (Some port) g)
-        moves_at_same =
-            let eh = let_in h in
-            let eg = let_in g in
-            let ch = comes_in h in
-            let cg = comes_in g in
-            (λ i. outcomes last h (cond (eh i) (moves_in w port (ch i)) (Drop ∷ [])))
-            ∙ picks (is_enabled port.interface && true) (moves_in w port h) (Drop ∷ []) (moves_in w port g) (Drop ∷ []) moves_in_same drops
-            ∙ sym (λ i. outcomes last g (cond (eg i) (moves_in w port (cg i)) (Drop ∷ [])))
-
-absent_drops : (last : Bool) (h g : Header) → outcomes last h (Drop ∷ []) ≡ outcomes last g (Drop ∷ [])
-absent_drops true h g = refl
-absent_drops false h g = refl
-
-outcomes_same : (w : World) → w.links.segments ≡ [] → (last : Bool) (h g : Header) → h.dst < 2 ^ 32 → g.dst < 2 ^ 32 → (o : Option Port) → ((port : Port) → o ≡ Some port → IsPlainPort port) → AreAlike (of_port o) h.dst g.dst → outcomes last h (moves_at w o h) ≡ outcomes last g (moves_at w o g)
-outcomes_same w alone last h g lh lg None k alike = absent_drops last h g
-outcomes_same w alone last h g lh lg (Some port) k alike = moves_at_same w alone last port (k port refl) h g lh lg alike
-
-pub label_same : (w : World) → w.links.segments ≡ [] → IsPlainNetwork w.network → (t : ℕ) → 1 ≤ t → (p : Place) (h g : Header) → h.dst < 2 ^ 32 → g.dst < 2 ^ 32 → AreAlike (looked_for w p) h.dst g.dst → label w t p h ≡ label w t p g
-label_same w alone plain t l p h g lh lg alike =
-    label_alone w alone t p h l
-    ∙ ap (in_order outcome_cmp) (outcomes_same w alone (t == 1) h g lh lg (port_at w p) (λ port e. plain_place w plain p port e) alike)
-    ∙ sym (label_alone w alone t p g l)
-
--- ---- the labels in both worlds
-
-pub affected_same : (old new : World) → old.links.segments ≡ [] → new.links.segments ≡ [] → IsPlainNetwork old.network → IsPlainNetwork new.network → (t : ℕ) → 1 ≤ t → (p : Place) (x y : ℕ) → x < 2 ^ 112 → y < 2 ^ 112 → AreAlike (looked_for old p ++ looked_for new p) (x / 2 ^ 80) (y / 2 ^ 80) → affected old new t p x ≡ affected old new t p y
-affected_same old new old_alone new_alone old_plain new_plain t l p x y lx ly alike =
+-- headers whose destinations are alike have the same two labels
+pub labels_alike : (last : Bool) (old new : Option PortAndRib) (x y : ℕ) → x < 2 ^ 112 → y < 2 ^ 112 → AreAlike (looked_for old ++ looked_for new) (x / 2 ^ 80) (y / 2 ^ 80) → header_labels last old new x ≡ header_labels last old new y
+labels_alike last old new x y lx ly alike =
     let dx : x / 2 ^ 80 ≡ x / 2 ^ 80 % 2 ^ 32 = omega arith in
     let dy : y / 2 ^ 80 ≡ y / 2 ^ 80 % 2 ^ 32 = omega arith in
     let bx : x / 2 ^ 80 % 2 ^ 32 < 2 ^ 32 = omega arith in
     let by : y / 2 ^ 80 % 2 ^ 32 < 2 ^ 32 = omega arith in
-    let all : AreAlike (looked_for old p ++ looked_for new p) (x / 2 ^ 80 % 2 ^ 32) (y / 2 ^ 80 % 2 ^ 32) =
-    subst (λ (n : ℕ). AreAlike (looked_for old p ++ looked_for new p) (x / 2 ^ 80 % 2 ^ 32) n) dy (subst (λ (n : ℕ). AreAlike (looked_for old p ++ looked_for new p) n (y / 2 ^ 80)) dx alike) in
-    let both = split_all (Alike (x / 2 ^ 80 % 2 ^ 32) (y / 2 ^ 80 % 2 ^ 32)) (looked_for old p) (looked_for new p) all in
-    let before = label_same old old_alone old_plain t l p (header_of x) (header_of y) bx by both.0 in
-    let after = label_same new new_alone new_plain t l p (header_of x) (header_of y) bx by both.1 in
-    λ i. labels_if_other (before i) (after i)
+    let all : AreAlike (looked_for old ++ looked_for new) (x / 2 ^ 80 % 2 ^ 32) (y / 2 ^ 80 % 2 ^ 32) =
+    subst (λ (n : ℕ). AreAlike (looked_for old ++ looked_for new) (x / 2 ^ 80 % 2 ^ 32) n) dy (subst (λ (n : ℕ). AreAlike (looked_for old ++ looked_for new) n (y / 2 ^ 80)) dx alike) in
+    let both = split_all (Alike (x / 2 ^ 80 % 2 ^ 32) (y / 2 ^ 80 % 2 ^ 32)) (looked_for old) (looked_for new) all in
+    let before = outcomes_same last (x / 2 ^ 80 % 2 ^ 32) (y / 2 ^ 80 % 2 ^ 32) bx by old both.0 in
+    let after = outcomes_same last (x / 2 ^ 80 % 2 ^ 32) (y / 2 ^ 80 % 2 ^ 32) bx by new both.1 in
+    λ i. labels_if_other (in_order outcome_cmp (before i)) (in_order outcome_cmp (after i))

@@ -4,3 +4,5 @@ pub mod CubeOfPrefix
 pub mod PartLemmas
 pub mod PartLabels
 pub mod AlikeHeaders
+pub mod LoneLabels
+pub mod Choices

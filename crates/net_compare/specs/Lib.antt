@@ -1,4 +1,5 @@
 pub mod Differences
+pub mod LoneDevice
 pub mod Numbers
 pub mod Parts
 pub mod Plain

@@ -5,10 +5,9 @@ use Rattle.net_types.specs.declared.config.Config.{Config}
 use Rattle.net_types.specs.declared.config.Interface.{Interface}
 use Rattle.net_types.specs.declared.config.Route.{Route}
 use Rattle.net_types.specs.declared.config.Subnet.{Subnet}
-use Rattle.net_types.specs.declared.network.Place.{Place}
-use Rattle.net_types.specs.Routes.{prefix_number, live_subnets, installed}
-use Rattle.net_types.specs.World.{World, Port, port_at}
+use Rattle.net_types.specs.Routes.{prefix_number, live_subnets}
 use Rattle.net_compare.specs.declared.prefix.Prefix.{Prefix}
+use Rattle.net_compare.specs.LoneDevice.{PortAndRib}
 
 -- a prefix holds the addresses that have its first bits
 abbrev pub holds : Prefix → ℕ → Bool
@@ -40,13 +39,10 @@ of_route r = record { address = r.prefix.address; length = r.prefix.length }
 abbrev pub of_device : Config → List Route → List Prefix
 of_device c routes = reserved ∷ (flat_map of_interface c.interfaces ++ map of_route routes)
 
-abbrev pub of_port : Option Port → List Prefix
-of_port None = []
-of_port (Some port) = of_device port.device.config (installed port.device.config)
-
--- all prefixes that the device at a place looks for
-abbrev pub looked_for : World → Place → List Prefix
-looked_for w p = of_port (port_at w p)
+-- all prefixes that the device at an ingress looks for
+abbrev pub looked_for : Option PortAndRib → List Prefix
+looked_for None = []
+looked_for (Some i) = of_device i.0.device.config i.1.routes
 
 -- the prefixes don't tell the two addresses apart
 abbrev pub AreAlike : List Prefix → ℕ → ℕ → Type 0

@@ -1,16 +1,19 @@
-ghost use Rattle.std.specs.Prelude.{◌≡◌, ◌≤◌, ◌<◌, ◌^◌, ℕ, [], All, IfOk, OnOk};
-ghost use Rattle.net_types.specs.Report.{affected, IsSection, IsReport};
+ghost use Rattle.std.specs.Prelude.{◌≡◌, ◌≤◌, ◌<◌, ◌^◌, ℕ, [], All, IfOk, OnOk, option_map};
+ghost use Rattle.net_types.specs.Report.{IsSection, IsReport};
 ghost use Rattle.plain_rules.specs.Borrowed.{world_of};
 ghost use Rattle.net_compare.specs.Differences.{labels_of, AddsCube};
+ghost use Rattle.net_compare.specs.LoneDevice.{seen, header_labels};
 ghost use Rattle.net_compare.specs.Parts.{CoverAll, IsConstant};
 ghost use Rattle.net_compare.specs.Plain.{world, IsPlainNetwork};
 
 use crate::device_prefixes::add_looked_for;
 use crate::differences::{Difference, rows};
+use crate::ingress::{Ingress, ingress_at};
+use crate::lone_device::label_at;
 use crate::parts::alike_parts;
 use hdr_bits::Cube;
 use net_types::{Links, List, Network, NoMemory, Place, Section};
-use plain_rules::{WorldRef, affected};
+use plain_rules::WorldRef;
 use std::alloc::Global;
 
 /// The report on two networks with the same links: for each ingress, in order, the canonical rows of exactly the
@@ -61,11 +64,9 @@ fn section(
     requires new { IsPlainNetwork (world_of new).network }
     ensures { IfOk result (λ section. IsSection (world_of old.entry) (world_of new.entry) ttl p section) }
 {
-    let mut prefixes = Vec::new(alloc);
-    add_looked_for(alloc, old, p, &mut prefixes)?;
-    add_looked_for(alloc, new, p, &mut prefixes)?;
-    let cubes = alike_parts(alloc, prefixes)?;
-    let differences = differences(alloc, old, new, ttl, p, &cubes)?;
+    let before = ingress_at(alloc, old, p)?;
+    let after = ingress_at(alloc, new, p)?;
+    let differences = differences(alloc, &before, &after, ttl == 1)?;
     let rows = rows(alloc, &differences)?;
     Ok(Section {
         place: p,
@@ -73,23 +74,39 @@ fn section(
     })
 }
 
-// The cubes of headers that are affected, each with the two labels of all its headers.
+// Cubes of exactly the headers whose labels differ, each with the two labels of all its headers; `last` is whether the
+// TTL is 1.
 fn differences(
     alloc: Global,
-    old: WorldRef,
-    new: WorldRef,
-    ttl: u8,
-    p: Place,
+    old: &Option<Ingress>,
+    new: &Option<Ingress>,
+    last: bool,
+) -> Result<Vec<Difference>, NoMemory>
+    ensures { IfOk result (λ differences. (h : ℕ) → h < 2 ^ 112 → labels_of differences.items h ≡ header_labels last (option_map seen old.now) (option_map seen new.now) h) }
+{
+    let mut prefixes = Vec::new(alloc);
+    add_looked_for(old, &mut prefixes)?;
+    add_looked_for(new, &mut prefixes)?;
+    let cubes = alike_parts(alloc, prefixes)?;
+    let differences = labelled(alloc, old, new, last, &cubes)?;
+    Ok(differences)
+}
+
+// The cubes of headers whose labels differ, with these.
+fn labelled(
+    alloc: Global,
+    old: &Option<Ingress>,
+    new: &Option<Ingress>,
+    last: bool,
     cubes: &[Cube],
 ) -> Result<Vec<Difference>, NoMemory>
-    requires ttl { 1 ≤ ttl }
     requires cover { CoverAll cubes.now }
-    requires constant { All (IsConstant (affected (world_of old) (world_of new) ttl p)) cubes.now }
-    ensures { IfOk result (λ differences. (h : ℕ) → h < 2 ^ 112 → labels_of differences.items h ≡ affected (world_of old.entry) (world_of new.entry) ttl p h) }
+    requires constant { All (IsConstant (header_labels last (option_map seen old.now) (option_map seen new.now))) cubes.now }
+    ensures { IfOk result (λ differences. (h : ℕ) → h < 2 ^ 112 → labels_of differences.items h ≡ header_labels last (option_map seen old.now) (option_map seen new.now) h) }
 {
     let mut differences = Vec::new(alloc);
     for cube in cubes {
-        add_difference(alloc, old, new, ttl, p, cube, &mut differences)?;
+        add_difference(alloc, old, new, last, cube, &mut differences)?;
     }
     Ok(differences)
 }
@@ -97,20 +114,21 @@ fn differences(
 // Adds the cube with the labels of its least header, where these differ.
 fn add_difference(
     alloc: Global,
-    old: WorldRef,
-    new: WorldRef,
-    ttl: u8,
-    p: Place,
+    old: &Option<Ingress>,
+    new: &Option<Ingress>,
+    last: bool,
     cube: &Cube,
     differences: &mut Vec<Difference>,
 ) -> Result<(), NoMemory>
-    requires ttl { 1 ≤ ttl }
-    requires constant { IsConstant (affected (world_of old) (world_of new) ttl p) cube.now }
-    ensures { OnOk result (AddsCube (affected (world_of old.entry) (world_of new.entry) ttl p) cube.now differences.old.items differences.new.items) }
+    requires { IsConstant (header_labels last (option_map seen old.now) (option_map seen new.now)) cube.now }
+    ensures { OnOk result (AddsCube (header_labels last (option_map seen old.now) (option_map seen new.now)) cube.now differences.old.items differences.new.items) }
 {
-    let Some((before, after)) = affected(alloc, old, new, ttl, p, &cube.least())? else {
+    let address = cube.least().dst;
+    let before = label_at(alloc, old, last, address)?;
+    let after = label_at(alloc, new, last, address)?;
+    if before.same(&after) {
         return Ok(());
-    };
+    }
     differences.push(Difference {
         cube: *cube,
         old: before,

@@ -1,28 +1,22 @@
 //! The prefixes that a device looks for.
 
-ghost use Rattle.std.specs.Prelude.{◌≡◌, ◌++◌, OnOk, map, flat_map};
-ghost use Rattle.plain_rules.specs.Borrowed.{world_of};
+ghost use Rattle.std.specs.Prelude.{◌≡◌, ◌++◌, OnOk, map, flat_map, option_map};
+ghost use Rattle.net_compare.specs.LoneDevice.{seen};
 ghost use Rattle.net_compare.specs.Prefixes.{just, greatest, of_subnet, of_interface, of_route, of_device, looked_for};
 
+use crate::ingress::Ingress;
 use crate::prefix::Prefix;
-use net_types::{Config, Interface, NoMemory, Place, Route, Subnet};
-use plain_rules::{WorldRef, build, port_at};
-use std::alloc::Global;
+use net_types::{Config, Interface, NoMemory, Route, Subnet};
 
-/// Adds the prefixes that the device at a place looks for; none where the place is absent.
-pub fn add_looked_for(
-    alloc: Global,
-    w: WorldRef,
-    p: Place,
-    prefixes: &mut Vec<Prefix>,
-) -> Result<(), NoMemory>
-    ensures { OnOk result (prefixes.new.items ≡ prefixes.old.items ++ looked_for (world_of w.entry) p) }
+/// Adds the prefixes that the device at an ingress looks for.
+pub fn add_looked_for(ingress: &Option<Ingress>, prefixes: &mut Vec<Prefix>) -> Result<(), NoMemory>
+    ensures { OnOk result (prefixes.new.items ≡ prefixes.old.items ++ looked_for (option_map seen ingress.now)) }
 {
-    let Some(port) = port_at(w, p) else {
+    let Some(ingress) = ingress else {
         return Ok(());
     };
-    let rib = build(alloc, &port.device.config)?;
-    add_device(&port.device.config, rib.routes.as_slice(), prefixes)
+    let config = &ingress.port.device.config;
+    add_device(config, ingress.rib.routes.as_slice(), prefixes)
 }
 
 fn add_device(config: &Config, routes: &[Route], prefixes: &mut Vec<Prefix>) -> Result<(), NoMemory>

@@ -9,7 +9,9 @@
 mod comparison;
 mod device_prefixes;
 mod differences;
+mod ingress;
 mod label_pairs;
+mod lone_device;
 mod parts;
 mod plain;
 mod prefix;

@@ -1,10 +1,8 @@
 -- The names of a folder's configurations.
-use Rattle.std.proofs.Common.{◌≡◌, ◌↔◌, ℕ, Bool, true, List, filter, refl, sym, ap, subst, ◌∙◌}
-use Rattle.std.specs.Prelude.{Option, Some, None, IfSome, Ok, IsTrue, Contains}
-use Rattle.std.specs.List.Sorted.{IsStrictlySortedBy}
+use Rattle.std.proofs.Common.{◌≡◌, true, List, filter, sym, subst}
+use Rattle.std.specs.Prelude.{Option, Some, None, IfSome, Ok, IsTrue}
 use Rattle.net_types.proofs.Ordered.{in_order_sorted}
-use Rattle.net_io.specs.Files.{Told, has_folder, IsListing, IsNameIn, IsAbsentUnless}
-use Rattle.net_io.specs.declared.reading.FileFail.{FileFail}
+use Rattle.net_io.specs.Files.{Told, has_folder, IsListing, IsAbsentUnless}
 use Rattle.topo_links.specs.Ends.{Word}
 use Rattle.topo_links.specs.Names.{name_cmp, sorted_names}
 use Rattle.topo_links.proofs.NameOrder.{name_total, name_exact, members_sorted, members_filter}

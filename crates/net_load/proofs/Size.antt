@@ -1,6 +1,6 @@
 -- A configuration has no more names than its text has bytes.
-use Rattle.std.proofs.Common.{◌≡◌, ℕ, ◌+◌, ◌<◌, ◌≤◌, zero, suc, Bool, true, false, cond, List, [], ◌∷◌, ◌++◌, length, map, refl, sym, ap, subst, ◌∙◌, arith, inl, inr}
-use Rattle.std.specs.Prelude.{◌⊎◌, Option, Some, None, filter_map, fold, nat_lt, filter, option_map}
+use Rattle.std.proofs.Common.{◌≡◌, ℕ, ◌+◌, ◌<◌, ◌≤◌, suc, List, [], ◌∷◌, ◌++◌, length, map, refl, sym, ap, ◌∙◌, arith, inl, inr}
+use Rattle.std.specs.Prelude.{◌⊎◌, Option, Some, None, filter_map, fold}
 use Rattle.std.specs.Option.{option_or}
 use Rattle.std.specs.List.{cons_option}
 use Rattle.std.proofs.lemmas.List.{length-map, length-append}
@@ -13,8 +13,8 @@ use Rattle.ios_config.specs.declared.effect.Effect.TheVariants as effect
 use Rattle.ios_config.specs.declared.effect.WrittenInterface.{WrittenInterface}
 use Rattle.ios_config.specs.Words.{Word, Words}
 use Rattle.ios_config.specs.Lists.{last, put_name, place_of, add_name, names_of, changes_of}
-use Rattle.ios_config.specs.Rules.{host_of, about, hostname, written, interfaces, interface_by, interface_of, config_of}
-use Rattle.ios_config.specs.Reads.{line_effect, effects_after, effects, early, no_hostname, late_by, late, refusal, Reads}
+use Rattle.ios_config.specs.Rules.{host_of, about, hostname, written, interfaces, interface_by, interface_of}
+use Rattle.ios_config.specs.Reads.{line_effect, effects_after, effects, early, late_by, late, refusal, Reads}
 use Rattle.net_load.specs.Numbering.{config_names}
 
 -- each line has one effect

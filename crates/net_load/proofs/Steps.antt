@@ -1,6 +1,6 @@
 -- The files of a folder, one after the other.
-use Rattle.std.proofs.Common.{◌≡◌, ℕ, ◌+◌, ◌<◌, ◌≤◌, suc, Bool, true, false, ◌||◌, List, [], ◌∷◌, ◌++◌, length, map, take, drop, get_or, sum_by, zero-add, refl, sym, ap, subst, ◌∙◌, arith}
-use Rattle.std.specs.Prelude.{Option, Some, None, IfSome, Result, Ok, Err, MatchOption}
+use Rattle.std.proofs.Common.{◌≡◌, ℕ, ◌+◌, ◌<◌, ◌≤◌, suc, Bool, true, false, ◌||◌, List, [], ◌∷◌, ◌++◌, length, map, take, drop, get_or, zero-add, refl, sym, ap, subst, ◌∙◌, arith}
+use Rattle.std.specs.Prelude.{Option, Some, None, IfSome, Result, Ok, Err}
 use Rattle.std.specs.List.{AllZip, IsDistinct, AllByRecursion, list_any}
 use Rattle.std.specs.Str.{bytes_eq}
 use Rattle.std.specs.Cmp.Lexicographic.{nat_list_eq_equiv}
@@ -17,7 +17,7 @@ use Rattle.net_load.specs.declared.folder.LoadFail.TheVariants as fail
 use Rattle.net_load.specs.declared.folder.TheConstants.{FOLDER_LIMIT}
 use Rattle.net_load.specs.declared.loader.Loader.{Loader}
 use Rattle.net_load.specs.Folder.{IsRead, AreLoaded, total, size_at, BytesFail, FileFails, FailsAt, Unless, FaultRose, HasCause}
-use Rattle.net_load.specs.Loader.{IsLoader, Adds, AddsFile, Accepts}
+use Rattle.net_load.specs.Loader.{IsLoader, AddsFile, Accepts}
 
 -- bytes that aren't taken are no fault
 pub no_fault : (folder path : Word) (sum : ℕ) (loaded : List Loaded) (bytes : List ℕ) (e : LoadFail) (before now : ℕ) → BytesFail folder path sum loaded bytes e → FaultRose e before now

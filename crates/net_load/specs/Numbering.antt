@@ -1,5 +1,5 @@
 -- Networks and links with numbers in place of names: a name's number is its place among all names in order.
-use Rattle.std.specs.Prelude.{ℕ, Bool, true, false, List, [], ◌∷◌, ◌++◌, map, filter, flat_map, position, unwrap_or, length, ◌+◌}
+use Rattle.std.specs.Prelude.{ℕ, true, false, List, [], ◌∷◌, ◌++◌, map, flat_map, position, unwrap_or, length, ◌+◌}
 use Rattle.std.specs.Str.{bytes_eq}
 use Rattle.net_types.specs.declared.config.Config.{Config}
 use Rattle.net_types.specs.declared.config.Loaded.{Loaded}
@@ -8,7 +8,6 @@ use Rattle.net_types.specs.declared.network.NetDevice.{NetDevice}
 use Rattle.net_types.specs.declared.network.Network.{Network}
 use Rattle.net_types.specs.declared.network.Segment.{Segment}
 use Rattle.net_types.specs.declared.network.Links.{Links}
-use Rattle.topo_links.specs.declared.table.LinkKind.{LinkKind}
 use Rattle.topo_links.specs.declared.table.LinkKind.TheVariants as kind
 use Rattle.topo_links.specs.declared.table.LinkLine.{LinkLine}
 use Rattle.topo_links.specs.declared.table.LinkTable.{LinkTable}

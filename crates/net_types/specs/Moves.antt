@@ -111,7 +111,8 @@ leave_with w port h a out =
 abbrev pub leave : World → Port → Header → ℕ → Port → Move
 leave w port h a out = leave_with w port (going_out port out h) a out
 
--- an interface that the device doesn't have loses the packet. No accepted configuration routes to one
+-- an interface that the device doesn't have, or that has no number, loses the packet. No accepted configuration routes
+-- to one
 abbrev pub leave_if_any : World → Port → Header → ℕ → Option Port → Move
 leave_if_any w port h a None = Lost
 leave_if_any w port h a (Some out) = leave w port h a out

@@ -14,7 +14,7 @@ use Rattle.net_types.specs.World.{World}
 use Rattle.net_types.specs.Walks.{label}
 use Rattle.net_types.specs.Order.{outcome_cmp}
 
--- whether two labels are equal, outcome by outcome. The law is `labels_are_compared`
+-- whether two labels are equal, outcome by outcome. The law is `affected_is_difference`
 abbrev pub same_label : List Outcome → List Outcome → Bool
 same_label old new = is_eq (slice_cmp outcome_cmp old new)
 

@@ -107,7 +107,7 @@ abbrev pub state_at : Place → Header → State
 state_at p h = record { place = p; header = h }
 
 -- the label of a header that enters at a place with the TTL t: the outcomes of all its ends, in order, each once. Laws:
--- it is never empty (`labels_have_outcomes`), and two labels of one header are equal exactly where the sets of ends are
+-- under a TTL of at least 1 it is never empty (`labels_have_outcomes`), and two labels of one header are equal exactly where the sets of ends are
 -- (`labels_tell_ends`)
 unfoldable pub label : World → ℕ → Place → Header → List Outcome
 label w t p h = in_order outcome_cmp (map (outcome_of h) (ends w t (state_at p h)))

@@ -57,7 +57,7 @@ pub enum Side {
 /// A static route, or a connected one.
 ///
 /// The prefix has no bit after its length. That is kept by those who make a route, as the reader of
-/// configurations, and no rule about routes needs it.
+/// configurations: which route of a prefix is installed is told by this address and length.
 #[derive(Drop)]
 pub struct Route {
     pub prefix: Subnet,

@@ -43,7 +43,8 @@ pub fn ends_are_ends_of_walks()
     ensures { (w : World) (t : ℕ) (s : State) (e : End) → Contains (ends w t s) e ↔ IsEnd w t s e }
 {}
 
-/// A label has exactly the outcomes of the header's ends, in order, each once, and at least one.
+/// A label has exactly the outcomes of the header's ends, in order, each once, and under a TTL of at least 1 at least
+/// one.
 pub fn labels_have_outcomes()
     ensures outcomes { (w : World) (t : ℕ) (p : Place) (h : Header) (o : Outcome) → Contains (label w t p h) o ↔ HasEnd w t p h o }
     ensures some { (w : World) (t : ℕ) (p : Place) (h : Header) → 1 ≤ t → IsLabel (label w t p h) }
@@ -55,14 +56,15 @@ pub fn labels_tell_ends()
     ensures { (old new : World) (t : ℕ) (p : Place) (h : Header) → (label old t p h ≡ label new t p h) ↔ SameEnds old new t p h }
 {}
 
-/// A header is affected exactly where its labels differ, and then it has that pair.
+/// A header is affected exactly where its labels differ, and then it has that pair; that labels are equal is decided by
+/// a test.
 pub fn affected_is_difference()
     ensures same { (old new : World) (t : ℕ) (p : Place) (x : ℕ) → IsNone (affected old new t p x) ↔ (label old t p (header_of x) ≡ label new t p (header_of x)) }
     ensures other { (old new : World) (t : ℕ) (p : Place) (x : ℕ) → label old t p (header_of x) ≢ label new t p (header_of x) → affected old new t p x ≡ Some (label old t p (header_of x), label new t p (header_of x)) }
     ensures test { (a b : List Outcome) → IsTrue (same_label a b) ↔ (a ≡ b) }
 {}
 
-/// Without segments a packet ends at the device where it enters, by that device's moves.
+/// Without segments and under a TTL of at least 1 a packet ends at the device where it enters, by that device's moves.
 pub fn alone_is_one_device()
     ensures { (w : World) → w.links.segments ≡ [] → (t : ℕ) (p : Place) (h : Header) → 1 ≤ t → label w t p h ≡ in_order outcome_cmp (map (outcome_of h) (filter_map (end_of (t == 1)) (moves w p h))) }
 {}

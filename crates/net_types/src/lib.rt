@@ -1,7 +1,7 @@
 //! The types of configurations, networks and reports, and the rules of what a packet does in a network.
 //!
-//! The rules are definitions of `specs/`: access lists in `Acl`, static routes in `Routes`, static address
-//! translation in `Nat`, a network and its links in `World`, what a device does with a packet in `Moves`, the walks
+//! The rules are definitions of `specs/`: access lists in `AccessLists`, static routes in `Routes`, static address
+//! translation in `Translation`, a network and its links in `World`, what a device does with a packet in `Moves`, the walks
 //! of a packet and its label in `Walks`, the order of outcomes in `Order`, and the report in `Report`.
 #![tactic(auto)]
 

@@ -1,10 +1,14 @@
 use Rattle.nat_static.proofs.compiled.outside_stamp.Goals as goal
-use Rattle.std.proofs.Common.{◌∙◌, ap, Some, length}
-use Rattle.std.specs.Option.{option_or}
+use Rattle.std.proofs.Common.{◌∙◌, ap, sym, subst}
 use Rattle.cube_alg.specs.Stamps.{applied}
 use Rattle.nat_static.specs.declared.rules.Direction.TheVariants.{FromOutside}
-use Rattle.nat_static.proofs.RuleLemmas.{stamp_right}
+use Rattle.nat_static.specs.Pieces.{ReplacesFixed}
+use Rattle.nat_static.proofs.FixedLemmas.{right_if, fixed_if}
 
 pub returns-clause-applies : goal.returns-clause-applies
 returns-clause-applies c h e =
-    ap (λ s. applied s h) c.stamp_at.ensures ∙ stamp_right FromOutside c.args.rules.now h c.args.number (ap (λ o. option_or o (Some (length c.args.rules.now))) e)
+    ap (λ s. applied s h) c.stamp_if.ensures ∙ right_if FromOutside c.args.rules.now h c.args.rule e
+
+pub returns-clause-fixed : goal.returns-clause-fixed
+returns-clause-fixed c cube f =
+    subst (λ s. ReplacesFixed s cube) (sym c.stamp_if.ensures) (fixed_if FromOutside c.args.rules.now cube c.args.rule f)

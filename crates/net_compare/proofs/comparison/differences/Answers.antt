@@ -1,22 +1,21 @@
-use Rattle.std.proofs.Common.{List, subst, sym}
-use Rattle.std.proofs.lemmas.List.{take_all}
+use Rattle.std.proofs.Common.{◌≡◌, ◌/◌, ◌^◌, ◌++◌, ◌∙◌, List, All, sym, ap, subst}
+use Rattle.std.specs.Prelude.{option_map}
 use Rattle.hdr_bits.specs.declared.cube.Cube.{Cube}
-use Rattle.net_types.specs.Report.{affected}
-use Rattle.plain_rules.specs.Borrowed.{world_of}
-use Rattle.net_compare.specs.Parts.{IsConstant}
-use Rattle.net_compare.proofs.PartLabels.{TellsThere, tells_more, tells_all}
+use Rattle.net_compare.specs.declared.prefix.Prefix.{Prefix}
+use Rattle.net_compare.specs.LoneDevice.{seen}
+use Rattle.net_compare.specs.Prefixes.{AreAlike, looked_for}
+use Rattle.net_compare.specs.Parts.{CoverAll, HasAlike}
+use Rattle.net_compare.proofs.AlikeHeaders.{labels_alike}
 use Rattle.net_compare.proofs.comparison.differences.Goals as goal
 
-pub loop-cube-preserved : goal.loop-cube-preserved
-loop-cube-preserved c =
-    tells_more (affected (world_of c.args.old) (world_of c.args.new) c.args.ttl c.args.p) c.args.cubes.now c.loop-cube.cube-index c.cube-item.result _ _ c.loop-cube-test.true c.cube-item.is c.in_ok-add_difference.ensures c.loop-cube.invariant
+pub labelled-requires-clause-cover : goal.labelled-requires-clause-cover
+labelled-requires-clause-cover c = subst (λ (cs : List Cube). CoverAll cs) (sym c.deref.ensures.value) c.in_ok-cubes.ensures.cover
 
-pub add_difference-requires-clause-constant : goal.add_difference-requires-clause-constant
-add_difference-requires-clause-constant c =
-    subst (λ (x : Cube). IsConstant (affected (world_of c.args.old) (world_of c.args.new) c.args.ttl c.args.p) x) (sym c.cube-item.is) (c.requires.constant c.loop-cube.cube-index c.cube-item.result c.loop-cube-test.true)
-
-pub returns : goal.returns
-returns c =
-    let f = affected (world_of c.args.old) (world_of c.args.new) c.args.ttl c.args.p in
-    let all = take_all c.loop-cube.cube-index c.args.cubes.now c.loop-cube-test.false in
-    tells_all f c.args.cubes.now c.loop-cube.differences.items c.requires.cover (subst (λ (cs : List Cube). TellsThere f cs c.loop-cube.differences.items) all c.loop-cube.invariant)
+pub labelled-requires-clause-constant : goal.labelled-requires-clause-constant
+labelled-requires-clause-constant c k d l h g lh lg ih ig =
+    let old = option_map seen c.args.old.now in
+    let new = option_map seen c.args.new.now in
+    let looked : c.add_looked_for-2.new.prefixes.items ≡ looked_for (option_map seen c.args.old.now) ++ looked_for (option_map seen c.args.new.now) =
+    c.in_ok-add_looked_for-2.ensures ∙ ap (λ (ps : List Prefix). ps ++ looked_for (option_map seen c.args.new.now)) (c.in_ok-add_looked_for.ensures ∙ ap (λ (ps : List Prefix). ps ++ looked_for (option_map seen c.args.old.now)) c.new-prefixes.ensures.items) in
+    let alike = subst (λ (cs : List Cube). All (HasAlike c.add_looked_for-2.new.prefixes.items) cs) (sym c.deref.ensures.value) c.in_ok-cubes.ensures.alike in
+    labels_alike c.args.last old new h g lh lg (subst (λ (ps : List Prefix). AreAlike ps (h / 2 ^ 80) (g / 2 ^ 80)) looked (alike k d l h g lh lg ih ig))

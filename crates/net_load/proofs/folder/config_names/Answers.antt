@@ -1,4 +1,4 @@
-use Rattle.std.proofs.Common.{◌≡◌, ap, ◌∙◌, filter, map, Global}
+use Rattle.std.proofs.Common.{ap, ◌∙◌, Global}
 use Rattle.std.specs.Prelude.{string_bytes}
 use Rattle.std.proofs.lemmas.List.Filters.{dedup_is}
 use Rattle.topo_links.specs.Names.{sorted_names}

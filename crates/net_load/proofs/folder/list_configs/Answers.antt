@@ -1,4 +1,4 @@
-use Rattle.std.proofs.Common.{◌≡◌, map, Global}
+use Rattle.std.proofs.Common.{map, Global}
 use Rattle.std.specs.Prelude.{string_bytes}
 use Rattle.net_load.proofs.Listing.{listed}
 use Rattle.net_load.proofs.folder.list_configs.Goals as goal

@@ -1,5 +1,5 @@
-use Rattle.std.proofs.Common.{◌≡◌, ◌+◌, ◌≤◌, ◌++◌, ◌∷◌, [], List, ℕ, map, take, drop, suc, length, sym, ap, subst, ◌∙◌, arith, rules, Vec, Global}
-use Rattle.std.specs.Prelude.{string_bytes, Option, Result, Err, IfSome}
+use Rattle.std.proofs.Common.{◌≡◌, ◌+◌, ◌++◌, ◌∷◌, [], List, ℕ, map, take, drop, suc, length, sym, ap, subst, ◌∙◌, arith, rules, Vec, Global}
+use Rattle.std.specs.Prelude.{string_bytes, Result, Err, IfSome}
 use Rattle.std.proofs.lemmas.List.{take_all}
 use Rattle.net_types.specs.declared.config.Loaded.{Loaded}
 use Rattle.net_load.specs.declared.folder.LoadFail.{LoadFail}

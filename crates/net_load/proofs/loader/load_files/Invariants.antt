@@ -1,4 +1,4 @@
-use Rattle.std.proofs.Common.{◌≡◌, ◌≤◌, ℕ, map, take, length}
+use Rattle.std.proofs.Common.{◌≡◌, ◌≤◌, map, take, length}
 use Rattle.std.specs.Prelude.{IfSome, string_bytes}
 use Rattle.net_load.specs.Folder.{AreLoaded, total}
 use Rattle.net_load.specs.Loader.{IsLoader}

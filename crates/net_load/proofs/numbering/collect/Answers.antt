@@ -2,7 +2,7 @@ use Rattle.std.proofs.Common.{◌≡◌, ◌≤◌, ℕ, List, [], ◌++◌, len
 use Rattle.topo_links.specs.Names.{add_name, add_names, sorted_names}
 use Rattle.topo_links.proofs.NameOrder.{sorted_once, length_sorted}
 use Rattle.std.proofs.lemmas.List.Sums.{fold-append}
-use Rattle.net_load.specs.Numbering.{folder_names, all_names, count_names, names_of}
+use Rattle.net_load.specs.Numbering.{folder_names, all_names, count_names}
 use Rattle.topo_links.specs.Table.{table_names}
 use Rattle.std.proofs.lemmas.List.{length-append}
 use Rattle.net_load.proofs.numbering.collect.Goals as goal

@@ -1,4 +1,4 @@
-use Rattle.std.proofs.Common.{◌≡◌, sym, ap, ◌∙◌}
+use Rattle.std.proofs.Common.{sym, ap, ◌∙◌}
 use Rattle.std.specs.Option.{option_copied}
 use Rattle.net_load.proofs.Hosts.{no_host}
 use Rattle.net_load.proofs.loader.Loader.add_reading.Goals as goal
