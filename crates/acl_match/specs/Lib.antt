@@ -1,0 +1,5 @@
+pub mod Cubes
+pub mod Products
+pub mod Ports
+pub mod Lists
+pub mod Numbers

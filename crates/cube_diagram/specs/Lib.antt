@@ -1,0 +1,6 @@
+pub mod Nodes
+pub mod Chains
+pub mod Combined
+pub mod Entries
+pub mod Parts
+pub mod Functions

@@ -1,0 +1,209 @@
+//! The table of diagrams that its users see.
+
+ghost use Rattle.std.specs.Prelude.{◌≡◌, ◌<◌, ◌≤◌, ◌^◌, ◌↔◌, ℕ, None, All, IfOk, IsTrue, length};
+ghost use Rattle.hdr_bits.specs.HeaderBits.{number};
+ghost use Rattle.cube_alg.specs.Pieces.{value_of};
+ghost use Rattle.cube_diagram.specs.Combined.{difference};
+ghost use Rattle.cube_diagram.specs.Entries.{cubes_value, first_value};
+ghost use Rattle.cube_diagram.specs.Parts.{OfPart};
+ghost use Rattle.cube_diagram.specs.Functions.{Keeps, count_of, value_at};
+
+use crate::combine::{Tables, combine, make_room, new_tables};
+use crate::descent::{Part, divide, lookup};
+use crate::entry::{entry, first_match, first_of};
+use crate::memo::Operation;
+use crate::table::NOTHING;
+use cube_alg::Piece;
+use hdr_bits::{Cube, Header};
+use no_memory::NoMemory;
+use std::alloc::Global;
+use std::marker::Model;
+
+/// Functions from headers to values, each by a number below the count of numbers. Equal functions have equal
+/// numbers, and a number keeps its function.
+#[derive(Drop)]
+pub struct Diagrams {
+    tables: Tables,
+}
+
+impl Model for Diagrams {
+    ghost use Rattle.cube_diagram.specs.Combined.{IsSound};
+    ghost use Rattle.cube_diagram.specs.Functions.{Functions};
+
+    ghost Value = { Functions };
+
+    ghost view = { λ d. d.tables.table.nodes.items };
+
+    ghost invariant = { λ d. IsSound d.tables };
+}
+
+impl Diagrams {
+    /// A table of two functions: that of no value, and that of the value 1 for all headers.
+    pub fn new(alloc: Global) -> Result<Diagrams, NoMemory>
+        ensures { IfOk result (λ d. count_of d ≡ 2) }
+    {
+        let tables = new_tables(alloc)?;
+        Ok(Diagrams { tables })
+    }
+
+    /// How many numbers there are.
+    pub fn count(&self) -> usize
+        ensures { result ≡ count_of self.now }
+    {
+        self.tables.table.nodes.len()
+    }
+
+    /// The number of the function that gives no header a value.
+    pub fn nothing(&self) -> u32
+        ensures below { result < count_of self.now }
+        ensures exact { (h : ℕ) → value_at self.now result h ≡ None }
+    {
+        let _tables = &self.tables;
+        NOTHING
+    }
+
+    /// The number of the function that gives this value to the headers of the cubes, as an entry of an access
+    /// list does. Without memory functions may have been added, but none that was there is changed.
+    pub fn add_entry(&mut self, cubes: &[Cube], value: u32) -> Result<u32, NoMemory>
+        ensures below { IfOk result (λ r. r < count_of self.new) }
+        ensures exact { IfOk result (λ r. (h : ℕ) → value_at self.new r h ≡ cubes_value cubes.now value h) }
+        ensures kept { Keeps self.old self.new }
+    {
+        let id = entry(&mut self.tables, cubes, value)?;
+        Ok(id)
+    }
+
+    /// The number of the function that gives a header what the first of these functions gives that has a value
+    /// for it, as a list of entries does.
+    pub fn first_of(&mut self, numbers: &[u32]) -> Result<u32, NoMemory>
+        requires { All (λ i. i < count_of self.old) numbers.now }
+        ensures below { IfOk result (λ r. r < count_of self.new) }
+        ensures exact { IfOk result (λ r. (h : ℕ) → value_at self.new r h ≡ first_value (value_at self.old) numbers.now h) }
+        ensures kept { Keeps self.old self.new }
+    {
+        let id = first_of(&mut self.tables, numbers)?;
+        Ok(id)
+    }
+
+    /// The number of the function that gives a header the value of the first of these pieces that holds it.
+    pub fn first_match(&mut self, pieces: &[Piece]) -> Result<u32, NoMemory>
+        ensures below { IfOk result (λ r. r < count_of self.new) }
+        ensures exact { IfOk result (λ r. (h : ℕ) → value_at self.new r h ≡ value_of pieces.now h) }
+        ensures kept { Keeps self.old self.new }
+    {
+        let id = first_match(&mut self.tables, pieces)?;
+        Ok(id)
+    }
+
+    /// The number of the function that gives 1 where the two differ, and nothing where they agree.
+    pub fn difference(&mut self, a: u32, b: u32) -> Result<u32, NoMemory>
+        requires first { a < count_of self.old }
+        requires second { b < count_of self.old }
+        ensures below { IfOk result (λ r. r < count_of self.new) }
+        ensures exact { IfOk result (λ r. (h : ℕ) → value_at self.new r h ≡ difference (value_at self.old a h) (value_at self.old b h)) }
+        ensures kept { Keeps self.old self.new }
+    {
+        make_room(&mut self.tables)?;
+        let id = combine(&mut self.tables, Operation::Difference, a, b)?;
+        Ok(id)
+    }
+
+    /// What the function gives the header.
+    pub fn lookup(&self, function: u32, header: &Header) -> Option<u32>
+        requires { function < count_of self.now }
+        ensures { result ≡ value_at self.now function (number header.now) }
+    {
+        lookup(&self.tables.table, function, header.to_bits())
+    }
+
+    /// What the function gives the headers of the cube: one answer for all, or the first place at which it
+    /// divides the cube, in at most 113 steps.
+    pub fn divide(&self, function: u32, cube: &Cube) -> Part
+        requires { function < count_of self.now }
+        ensures { OfPart (value_at self.now function) cube.now result }
+    {
+        divide(&self.tables.table, function, cube)
+    }
+
+    /// Whether the two are equal: exactly where they have one number.
+    pub fn same(&self, a: u32, b: u32) -> bool
+        requires first { a < count_of self.now }
+        requires second { b < count_of self.now }
+        ensures { IsTrue result ↔ ((h : ℕ) → h < 2 ^ 112 → value_at self.now a h ≡ value_at self.now b h) }
+    {
+        let _tables = &self.tables;
+        a == b
+    }
+}
+
+#[cfg(test)]
+mod tests {
+    use super::*;
+    use std::test::Fail;
+
+    // The headers with these first bits of the destination.
+    fn to(dst: u32, length: u32) -> Result<Cube, Fail> {
+        let mask = u32::MAX.checked_shl(32 - length.min(32)).unwrap_or(0);
+        let fixed = u128::from(mask) << 80;
+        let cube = Cube::from_masks(fixed, u128::from(dst) << 80).ok_or("no prefix")?;
+        Ok(cube)
+    }
+
+    #[test]
+    fn lists_in_one_table(rt: HostRuntime) -> Result<(), Fail> {
+        let mut d = Diagrams::new(rt.alloc())?;
+        let host = d.add_entry(&[to(0x0a00_0001, 32)?], 7)?;
+        let both = d.add_entry(&[to(0x0a00_0000, 32)?, to(0x0a00_0001, 32)?], 7)?;
+        let four = d.add_entry(&[to(0x0a00_0000, 30)?], 9)?;
+        let none = d.add_entry(&[], 9)?;
+        assert_eq!(rt; none, d.nothing());
+        let list = d.first_of(&[host, four])?;
+        let behind = d.first_of(&[four, host])?;
+        assert_eq!(rt; behind, four);
+        assert_eq!(rt;
+            d.first_of(&[both, four])? == d.first_of(&[host, both, four])?,
+            true
+        );
+
+        let one = to(0x0a00_0001, 32)?.least();
+        assert_eq!(rt; d.lookup(list, &one), Some(7));
+        assert_eq!(rt; d.lookup(four, &one), Some(9));
+        assert_eq!(rt; d.lookup(host, &to(0x0a00_0002, 32)?.least()), None);
+
+        let parts = [
+            (to(0x0a00_0001, 32)?, Part::Whole { value: Some(7) }),
+            (to(0x0a00_0002, 31)?, Part::Whole { value: Some(9) }),
+            (to(0x0a00_0000, 31)?, Part::Divided { place: 31 }),
+            (to(0x0a00_0000, 24)?, Part::Divided { place: 24 }),
+            (to(0x0b00_0000, 8)?, Part::Whole { value: None }),
+        ];
+        for (cube, part) in parts {
+            assert_eq!(rt; d.divide(list, &cube), part);
+        }
+
+        let pieces = [
+            Piece {
+                cube: to(0x0a00_0001, 32)?,
+                value: 7,
+            },
+            Piece {
+                cube: to(0x0a00_0000, 30)?,
+                value: 9,
+            },
+        ];
+        assert_eq!(rt; d.first_match(&pieces)?, list);
+
+        let changed = d.difference(list, four)?;
+        assert_eq!(rt;
+            d.divide(changed, &to(0x0a00_0001, 32)?),
+            Part::Whole { value: Some(1) }
+        );
+        assert_eq!(rt;
+            d.divide(changed, &to(0x0a00_0002, 31)?),
+            Part::Whole { value: None }
+        );
+        assert_eq!(rt; d.difference(list, list)?, d.nothing());
+        assert!(rt; d.same(list, list) && !d.same(list, four));
+        Ok(())
+    }
+}

@@ -1,0 +1,18 @@
+//! Functions on headers as decision diagrams in one table (Bryant, IEEE Transactions on Computers, 1986): each
+//! function that was asked for has one number, and equal functions have equal numbers.
+//!
+//! An access list is a function that gives a header the value of the first entry that holds it. Its diagram
+//! tests the header's bits in order, the destination's first, and shares what is alike below. So a list whose
+//! disjoint cubes would number millions has some thousand nodes, and a second version of it costs little more
+//! than its changes.
+#![tactic(auto)]
+
+mod combine;
+mod descent;
+mod diagrams;
+mod entry;
+mod memo;
+mod table;
+
+pub use descent::Part;
+pub use diagrams::Diagrams;
