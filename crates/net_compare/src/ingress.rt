@@ -5,7 +5,8 @@ ghost use Rattle.plain_rules.specs.Borrowed.{world_of};
 ghost use Rattle.net_compare.specs.LoneDevice.{ingress_at, seen};
 
 use net_types::{NoMemory, Place, Rib};
-use plain_rules::{PortRef, WorldRef, build, port_at};
+use plain_rules::{PortRef, WorldRef, port_at};
+use rib_build::build;
 use std::alloc::Global;
 
 /// An interface where packets enter, with its device and the routes by which that forwards.

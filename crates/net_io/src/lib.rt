@@ -7,7 +7,7 @@
 //! [`MemFiles`] and [`MemSink`] stand in memory and tell all that they hold. [`RealFiles`] and
 //! [`RealSink`] stand over the system, and tell nothing: that the system reads and writes as it should
 //! is trusted. So a `RealFiles` that always answered `Absent`, or that each folder and file is empty,
-//! would meet its contract, and so would a [`Stream`] that writes nothing. Only tests speak against that.
+//! would meet its contract. Only tests speak against that.
 #![tactic(auto)]
 
 mod mem_files;
@@ -21,7 +21,7 @@ pub use mem_files::MemFiles;
 pub use mem_sink::MemSink;
 pub use reading::{FILE_LIMIT, FileFail, Files, ReadFail, read_all};
 pub use real_files::RealFiles;
-pub use real_sink::{RealSink, Stream};
+pub use real_sink::RealSink;
 pub use writing::{Failed, Sink, write_all};
 
 #[cfg(test)]

@@ -4,11 +4,8 @@ ghost use Rattle.std.specs.Io.KnownBytes.{WriteAppends};
 ghost use Rattle.net_io.specs.Faults.{counted, Counts};
 
 use crate::{Failed, Sink};
-use std::io;
 use std::io::Write;
 use std::marker::Model;
-use std::os::fd::AsFd;
-use std::process::ChildStdin;
 
 /// A sink over a writer. It tells nothing of what it took.
 ///
@@ -66,41 +63,5 @@ impl<W: Write> Sink for RealSink<W> {
                 Err(Failed)
             }
         }
-    }
-}
-
-/// A writer to an open stream of the system, as standard output.
-///
-/// A write to a pipe that nobody reads is an error of the write, where a plain writer would end the
-/// program by a signal. Where the stream couldn't be opened once more, each write is an error.
-#[derive(Drop)]
-pub struct Stream {
-    // Of all writers of std, the one to a child's input holds the signal back, whatever the stream is.
-    end: Option<ChildStdin>,
-}
-
-impl Stream {
-    /// A writer to the same stream.
-    pub fn of(stream: &impl AsFd) -> Stream {
-        Stream {
-            end: stream
-                .as_fd()
-                .try_clone_to_owned()
-                .ok()
-                .map(ChildStdin::from),
-        }
-    }
-}
-
-impl Write for Stream {
-    fn write(&mut self, piece: &[u8]) -> io::Result<usize> {
-        match &mut self.end {
-            Some(end) => end.write(piece),
-            None => Err(io::Error::from(io::ErrorKind::NotConnected)),
-        }
-    }
-
-    fn flush(&mut self) -> io::Result<()> {
-        Ok(())
     }
 }

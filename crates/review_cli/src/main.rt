@@ -1,7 +1,7 @@
 //! The program `review`: the words of the command line, the system's files and streams, and the status.
 #![tactic(auto)]
 
-use net_io::{RealFiles, RealSink, Stream};
+use net_io::{RealFiles, RealSink};
 use review_core::run;
 use std::process::ExitCode;
 use std::{env, io};
@@ -17,8 +17,8 @@ fn words(rt: &HostRuntime) -> io::Result<Vec<String>> {
 
 fn main(rt: HostRuntime) -> ExitCode {
     let alloc = rt.alloc();
-    let mut out = RealSink::new(Stream::of(&rt.stdout()));
-    let mut err = RealSink::new(Stream::of(&rt.stderr()));
+    let mut out = RealSink::new(rt.stdout());
+    let mut err = RealSink::new(rt.stderr());
     // Words that can't be read are no command.
     let words = words(&rt).unwrap_or(Vec::new(alloc));
     let mut files = RealFiles::new(rt);
