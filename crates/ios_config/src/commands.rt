@@ -1,59 +1,89 @@
-//! The commands that are read.
-ghost use Rattle.std.specs.Prelude.{◌≡◌, IfOk};
-ghost use Rattle.ios_config.specs.Words.{Gives};
+//! What a line does.
+ghost use Rattle.std.specs.Prelude.{◌≡◌, ◌≤◌, IfOk, length, map};
+ghost use Rattle.net_text.specs.Lines.{piece};
+ghost use Rattle.ios_lines.specs.Words.{Gives};
 ghost use Rattle.ios_config.specs.Effects.{
-  hostname_effect,
-  interface_effect,
-  subnet_of,
-  written_at,
-  address_effect,
-  shutdown_effect,
-  uncovered,
+  hostname_action,
   interface_command,
   global_command,
   sub_command,
-  any_command,
+  command_action,
+  resolve,
   begins_mark,
   is_comment,
-  resolve,
-  command_effect,
+  words_effect,
+  effect_of,
 };
+ghost use Rattle.ios_config.specs.Answers.{seen_in};
 
-use crate::effect::{Change, Effect, Section, WrittenAddress};
-use crate::fault::{Kind, ReadError, Refusal};
-use crate::words::{
-    Command, after, begins, cut, end, fault, first, is, next, read_address, read_mask,
+use crate::draft::Draft;
+use ios_commands::{
+    access_group, banner, global_row, interface, interface_address, interface_row, is_banner,
+    plain, static_route, static_rule, uncovered,
 };
-use net_types::{Duplicate, NoMemory, Subnet, Text};
+use ios_lines::{
+    Action, Change, Command, Effect, Fault, ReadError, Refusal, Section, after, begins, end, next,
+};
+use ios_lists::{list_line, numbered_list, open_list};
+use net_text::{Line, Span, part};
+use net_types::{Duplicate, NoMemory, Side, Text};
 use std::alloc::Global;
 
-/// What a line does.
-#[tactic(auto, unfolding(crate::specs::Effects::command_effect))]
-pub fn effect(
+/// What a line does after the lines that have made the draft.
+#[tactic(auto, unfolding(crate::specs::Effects::effect_of))]
+pub fn effect(alloc: Global, bytes: &[u8], draft: &Draft, line: &Line) -> Result<Effect, NoMemory>
+    requires size { length bytes.now ≤ 16777216 }
+    requires number { line.now.number ≤ 16777217 }
+    ensures { IfOk result (λ e. e ≡ effect_of bytes.now (seen_in draft.now) line.now) }
+{
+    if line.number <= draft.covered {
+        return Ok(Effect::Skip);
+    }
+    let words = line_words(alloc, bytes, line.words.as_slice())?;
+    let effect = words_effect(alloc, bytes, draft, line, &words)?;
+    Ok(effect)
+}
+
+/// The words of a line.
+fn line_words(alloc: Global, bytes: &[u8], spans: &[Span]) -> Result<Vec<Text>, NoMemory>
+    ensures { IfOk result (λ words. words.items ≡ map (piece bytes.now) spans.now) }
+{
+    let mut words = Vec::new(alloc);
+    for span in spans {
+        words.push(Text::copy_of(alloc, part(bytes, *span))?)?;
+    }
+    Ok(words)
+}
+
+/// What a line of these words does, which no banner covers.
+#[tactic(auto, unfolding(crate::specs::Effects::words_effect))]
+fn words_effect(
     alloc: Global,
-    section: &Section,
-    line: u32,
-    indent: bool,
+    bytes: &[u8],
+    draft: &Draft,
+    line: &Line,
     words: &[Text],
 ) -> Result<Effect, NoMemory>
-    ensures { IfOk result (λ e. e ≡ command_effect section.now line indent words.now) }
+    requires size { length bytes.now ≤ 16777216 }
+    requires number { line.now.number ≤ 16777217 }
+    ensures { IfOk result (λ e. e ≡ words_effect bytes.now (seen_in draft.now) line.now words.now) }
 {
     if is_comment(words) {
         return Ok(Effect::Skip);
     }
-    match any_command(alloc, section, line, indent, words) {
-        Ok(effect) => Ok(effect),
+    if is_banner(line.indent, words) {
+        return Ok(banner(alloc, bytes, line));
+    }
+    match command(alloc, draft, line.number, line.indent, words) {
+        Ok(action) => Ok(Effect::Act { action }),
         Err(ReadError::NoMemory) => Err(NoMemory),
-        Err(ReadError::Fault(_)) => {
-            let word = first(alloc, words)?;
-            Ok(Effect::Refused {
-                refusal: Refusal {
-                    kind: Kind::NotCovered,
-                    line,
-                    word: cut(alloc, &word)?,
-                },
-            })
-        }
+        Err(ReadError::Fault(Fault { kind, word })) => Ok(Effect::Refused {
+            refusal: Refusal {
+                kind,
+                line: line.number,
+                word,
+            },
+        }),
     }
 }
 
@@ -78,39 +108,49 @@ fn begins_mark(word: &[u8]) -> bool
 }
 
 /// An indented line belongs to the section.
-#[tactic(auto, unfolding(crate::specs::Effects::any_command))]
-fn any_command(
+#[tactic(auto, unfolding(crate::specs::Effects::command_action))]
+fn command(
     alloc: Global,
-    section: &Section,
+    draft: &Draft,
     line: u32,
     indent: bool,
     words: &[Text],
-) -> Result<Effect, ReadError>
-    ensures { Gives (λ e. e) result (any_command section.now line indent words.now) }
+) -> Result<Action, ReadError>
+    ensures { Gives (λ a. a) result (command_action (seen_in draft.now) line indent words.now) }
 {
     if indent {
-        return sub_command(alloc, section, line, words);
+        return sub_command(alloc, draft, line, words);
     }
-    global_command(alloc, words)
+    global_command(alloc, draft, line, words)
 }
 
-fn sub_command(
+/// A line of a section.
+fn sub_command(alloc: Global, draft: &Draft, line: u32, words: &[Text]) -> Result<Action, ReadError>
+    ensures { Gives (λ a. a) result (sub_command (seen_in draft.now) draft.now.section line words.now) }
+{
+    match &draft.section {
+        Section::Other => Ok(Action::Pass { global: false }),
+        Section::Interface { name } => interface_command(alloc, name, line, words),
+        Section::List { name, extended } => list_line(
+            alloc,
+            &draft.list_names,
+            &draft.lists,
+            name,
+            *extended,
+            words,
+        ),
+    }
+}
+
+/// A global command.
+#[tactic(auto, unfolding(crate::specs::Effects::global_command))]
+fn global_command(
     alloc: Global,
-    section: &Section,
+    draft: &Draft,
     line: u32,
     words: &[Text],
-) -> Result<Effect, ReadError>
-    ensures { Gives (λ e. e) result (sub_command section.now line words.now) }
-{
-    match section {
-        Section::Other => uncovered(alloc, words),
-        Section::Interface { name } => interface_command(alloc, name, line, words),
-    }
-}
-
-#[tactic(auto, unfolding(crate::specs::Effects::global_command))]
-fn global_command(alloc: Global, words: &[Text]) -> Result<Effect, ReadError>
-    ensures { Gives (λ e. e) result (global_command words.now) }
+) -> Result<Action, ReadError>
+    ensures { Gives (λ a. a) result (global_command (seen_in draft.now) line words.now) }
 {
     if begins(words, &[b"hostname"]) {
         return hostname(alloc, after(words, 1));
@@ -118,115 +158,85 @@ fn global_command(alloc: Global, words: &[Text]) -> Result<Effect, ReadError>
     if begins(words, &[b"interface"]) {
         return interface(alloc, after(words, 1));
     }
-    uncovered(alloc, words)
+    if begins(words, &[b"ip", b"route"]) {
+        return static_route(alloc, line, after(words, 2));
+    }
+    if begins(words, &[b"ip", b"nat", b"inside", b"source", b"static"]) {
+        return static_rule(alloc, &draft.nat, after(words, 5));
+    }
+    if begins(words, &[b"access-list"]) {
+        return numbered_list(alloc, &draft.list_names, &draft.lists, after(words, 1));
+    }
+    if begins(words, &[b"ip", b"access-list"]) {
+        return open_list(alloc, &draft.list_names, &draft.lists, after(words, 2));
+    }
+    uncovered(
+        alloc,
+        words,
+        global_row(words),
+        Action::Pass { global: true },
+    )
 }
 
+/// A command of an interface's section.
 #[tactic(auto, unfolding(crate::specs::Effects::interface_command))]
 fn interface_command(
     alloc: Global,
     name: &Text,
     line: u32,
     words: &[Text],
-) -> Result<Effect, ReadError>
-    ensures { Gives (λ e. e) result (interface_command name.now line words.now) }
+) -> Result<Action, ReadError>
+    ensures { Gives (λ a. a) result (interface_command name.now line words.now) }
 {
     if begins(words, &[b"ip", b"address"]) {
         return interface_address(alloc, name, line, after(words, 2));
     }
-    if begins(words, &[b"shutdown"]) {
-        return shutdown(alloc, name, after(words, 1));
+    if begins(words, &[b"no", b"ip", b"address"]) {
+        return plain(alloc, name, Change::Clear, after(words, 3));
     }
-    uncovered(alloc, words)
-}
-
-/// A command that isn't covered.
-fn uncovered(alloc: Global, words: &[Text]) -> Result<Effect, ReadError>
-    ensures { Gives (λ e. e) result (uncovered words.now) }
-{
-    let word = first(alloc, words)?;
-    Err(fault(Kind::NotCovered, cut(alloc, &word)?))
+    if begins(words, &[b"shutdown"]) {
+        return plain(alloc, name, Change::Shut { shut: true }, after(words, 1));
+    }
+    if begins(words, &[b"no", b"shutdown"]) {
+        return plain(alloc, name, Change::Shut { shut: false }, after(words, 2));
+    }
+    if begins(words, &[b"ip", b"access-group"]) {
+        return access_group(alloc, name, after(words, 2));
+    }
+    if begins(words, &[b"ip", b"nat", b"inside"]) {
+        return plain(
+            alloc,
+            name,
+            Change::OnSide { side: Side::Inside },
+            after(words, 3),
+        );
+    }
+    if begins(words, &[b"ip", b"nat", b"outside"]) {
+        return plain(
+            alloc,
+            name,
+            Change::OnSide {
+                side: Side::Outside,
+            },
+            after(words, 3),
+        );
+    }
+    uncovered(
+        alloc,
+        words,
+        interface_row(words),
+        Action::Pass { global: false },
+    )
 }
 
 /// `hostname W`
-#[tactic(auto, unfolding(crate::specs::Effects::hostname_effect))]
-fn hostname(alloc: Global, words: &[Text]) -> Result<Effect, ReadError>
-    ensures { Gives (λ e. e) result (hostname_effect words.now) }
+#[tactic(auto, unfolding(crate::specs::Effects::hostname_action))]
+fn hostname(alloc: Global, words: &[Text]) -> Result<Action, ReadError>
+    ensures { Gives (λ a. a) result (hostname_action words.now) }
 {
     let (name, rest) = next(alloc, words)?;
     end(alloc, Command::Plain, rest)?;
-    Ok(Effect::Host {
+    Ok(Action::Host {
         name: name.copy(alloc)?,
-    })
-}
-
-/// `interface W`
-#[tactic(auto, unfolding(crate::specs::Effects::interface_effect))]
-fn interface(alloc: Global, words: &[Text]) -> Result<Effect, ReadError>
-    ensures { Gives (λ e. e) result (interface_effect words.now) }
-{
-    let (name, rest) = next(alloc, words)?;
-    end(alloc, Command::Plain, rest)?;
-    if is(name, b"Null0") {
-        return Err(fault(Kind::NotCovered, cut(alloc, name)?));
-    }
-    Ok(Effect::Interface {
-        name: name.copy(alloc)?,
-        change: Change::Open,
-    })
-}
-
-/// ` ip address A M`
-#[tactic(auto, unfolding(crate::specs::Effects::address_effect))]
-fn interface_address(
-    alloc: Global,
-    name: &Text,
-    line: u32,
-    words: &[Text],
-) -> Result<Effect, ReadError>
-    ensures { Gives (λ e. e) result (address_effect name.now line words.now) }
-{
-    let (address, rest) = written_address(alloc, line, words)?;
-    end(alloc, Command::Address, rest)?;
-    let name = name.copy(alloc)?;
-    Ok(Effect::Interface {
-        name,
-        change: Change::Primary { address },
-    })
-}
-
-/// `A M`, where the mask isn't 0.0.0.0
-#[tactic(auto, unfolding(crate::specs::Effects::written_at))]
-fn written_address(
-    alloc: Global,
-    line: u32,
-    words: &[Text],
-) -> Result<(WrittenAddress, &[Text]), ReadError>
-    ensures { Gives (λ x. (x.0, x.1.now)) result (written_at line words.now) }
-{
-    let (address, rest) = read_address(alloc, Command::Address, words)?;
-    let (length, rest) = read_mask(alloc, Command::Address, 1, rest)?;
-    let word = first(alloc, words)?;
-    let subnet = subnet(address, length);
-    Ok((WrittenAddress { subnet, line, word }, rest))
-}
-
-/// An address with the length of its mask.
-fn subnet(address: u32, length: u8) -> Subnet
-    ensures { result ≡ subnet_of address length }
-{
-    let length = length.min(32);
-    Subnet { address, length }
-}
-
-/// ` shutdown`
-#[tactic(auto, unfolding(crate::specs::Effects::shutdown_effect))]
-fn shutdown(alloc: Global, name: &Text, words: &[Text]) -> Result<Effect, ReadError>
-    ensures { Gives (λ e. e) result (shutdown_effect name.now words.now) }
-{
-    end(alloc, Command::Plain, words)?;
-    let name = name.copy(alloc)?;
-    Ok(Effect::Interface {
-        name,
-        change: Change::Shut { shut: true },
     })
 }

@@ -1,19 +1,17 @@
 //! Reading a configuration.
-ghost use Rattle.std.specs.Prelude.{◌≡◌, ◌≤◌, ◌+◌, IfOk, length, map, take, []};
-ghost use Rattle.net_text.specs.Lines.{piece};
-ghost use Rattle.ios_config.specs.Rules.{interface_of};
-ghost use Rattle.ios_config.specs.Reads.{effects_after, late_by, overlapping};
+ghost use Rattle.std.specs.Prelude.{◌≡◌, ◌≤◌, ◌<◌, IfOk, length, map};
+ghost use Rattle.net_text.specs.Lines.{lines_of};
+ghost use Rattle.ios_config.specs.Rules.{interface_of, list_of};
+ghost use Rattle.ios_config.specs.Reads.{effects};
 ghost use Rattle.ios_config.specs.Draft.{parts};
-ghost use Rattle.ios_config.specs.Answers.{Answers, Drafted, Finished, effect_in};
+ghost use Rattle.ios_config.specs.Answers.{Answers, Drafted, Finished};
 
 use crate::commands::effect;
 use crate::draft::Draft;
-use crate::effect::{Effect, Section, WrittenAddress, WrittenInterface};
-use crate::fault::{Kind, Refusal};
-use crate::overlap::first_clash;
-use crate::words::cut;
-use net_text::{Line, Span, lines, part};
-use net_types::{Config, Interface, List, NoMemory, Subnet, Text};
+use crate::late::{late, no_hostname};
+use ios_lines::{Effect, Refusal, WrittenAddress, WrittenInterface, WrittenList, WrittenRoute};
+use net_text::{Line, lines};
+use net_types::{AccessList, Config, Interface, List, NoMemory, Route, Subnet};
 use std::alloc::Global;
 
 /// A configuration, and how many lines were passed over.
@@ -45,8 +43,19 @@ impl From<NoMemory> for ConfigFail {
 
 /// The configuration that a text of at most 16,777,216 bytes is read as.
 ///
-/// A refusal is answered exactly where the text is refused, with the kind, the line and the word.
+/// A refusal is answered exactly where the text is refused, with the kind, the line and the word. A
+/// configuration has fewer interfaces than its text has bytes, so the names of several texts can be
+/// counted by their bytes.
 pub fn read_config(alloc: Global, bytes: &[u8]) -> Result<Reading, ConfigFail>
+    requires { length bytes.now ≤ 16777216 }
+    ensures reads { Answers bytes.now result }
+    ensures interfaces { IfOk result (λ r. length r.config.interfaces < length bytes.now) }
+{
+    read_text(alloc, bytes)
+}
+
+/// What the text is read as.
+fn read_text(alloc: Global, bytes: &[u8]) -> Result<Reading, ConfigFail>
     requires { length bytes.now ≤ 16777216 }
     ensures { Answers bytes.now result }
 {
@@ -57,12 +66,13 @@ pub fn read_config(alloc: Global, bytes: &[u8]) -> Result<Reading, ConfigFail>
 
 /// What the lines make, or the first refusal.
 fn read_lines(alloc: Global, bytes: &[u8], lines: &[Line]) -> Result<Draft, ConfigFail>
-    requires { length lines.now ≤ 16777217 }
-    ensures { Drafted (effects_after bytes.now [] lines.now) result }
+    requires size { length bytes.now ≤ 16777216 }
+    requires lines { lines.now ≡ lines_of bytes.now }
+    ensures { Drafted (effects bytes.now) result }
 {
     let mut draft = Draft::new(alloc);
     for line in lines {
-        let effect = line_effect(alloc, bytes, &draft.section, line)?;
+        let effect = effect(alloc, bytes, &draft, line)?;
         if let Effect::Refused { refusal } = effect {
             return Err(ConfigFail::Refused { refusal });
         }
@@ -71,78 +81,78 @@ fn read_lines(alloc: Global, bytes: &[u8], lines: &[Line]) -> Result<Draft, Conf
     Ok(draft)
 }
 
-/// What a line does.
-fn line_effect(
-    alloc: Global,
-    bytes: &[u8],
-    section: &Section,
-    line: &Line,
-) -> Result<Effect, NoMemory>
-    ensures { IfOk result (λ e. e ≡ effect_in bytes.now section.now line.now) }
-{
-    let words = line_words(alloc, bytes, line.words.as_slice())?;
-    let effect = effect(alloc, section, line.number, line.indent, &words)?;
-    Ok(effect)
-}
-
-/// The words of a line.
-fn line_words(alloc: Global, bytes: &[u8], spans: &[Span]) -> Result<Vec<Text>, NoMemory>
-    ensures { IfOk result (λ words. words.items ≡ map (piece bytes.now) spans.now) }
-{
-    let mut words = Vec::new(alloc);
-    for span in spans {
-        words.push(Text::copy_of(alloc, part(bytes, *span))?)?;
-    }
-    Ok(words)
-}
-
 /// The configuration after the last line, or what is refused then.
 fn finish(alloc: Global, draft: Draft) -> Result<Reading, ConfigFail>
     ensures { Finished (parts draft) result }
 {
     let Draft {
         hostname,
-        names: _,
+        names,
         interfaces,
+        routes,
+        nat,
+        list_names: _,
+        lists,
         section: _,
+        covered: _,
         passed,
     } = draft;
     let Some(hostname) = hostname else {
         return Err(ConfigFail::Refused {
-            refusal: Refusal {
-                kind: Kind::NoHostname,
-                line: 0,
-                word: Text::new(Vec::new(alloc)),
-            },
+            refusal: no_hostname(alloc),
         });
     };
-    if let Some(refusal) = overlapping(alloc, &interfaces)? {
+    if let Some(refusal) = late(alloc, &names, &interfaces, &routes)? {
         return Err(ConfigFail::Refused { refusal });
     }
     Ok(Reading {
         config: Config {
             hostname,
             interfaces: List::new(finish_interfaces(alloc, interfaces)?),
-            routes: List::empty(alloc),
-            lists: List::empty(alloc),
-            nat: List::empty(alloc),
+            routes: List::new(finish_routes(alloc, routes)?),
+            lists: List::new(finish_lists(alloc, lists)?),
+            nat: List::new(nat.into_rules()),
         },
         passed,
     })
 }
 
-/// The refusal of addresses that overlap.
-fn overlapping(alloc: Global, interfaces: &[WrittenInterface]) -> Result<Option<Refusal>, NoMemory>
-    ensures { IfOk result (λ r. r ≡ overlapping interfaces.now) }
+/// The routes, without their lines.
+fn finish_routes(alloc: Global, routes: Vec<WrittenRoute>) -> Result<Vec<Route>, NoMemory>
+    ensures { IfOk result (λ rs. rs.items ≡ map (λ r. r.route) routes.items) }
 {
-    let Some(address) = first_clash(alloc, interfaces)? else {
-        return Ok(None);
-    };
-    Ok(Some(Refusal {
-        kind: Kind::OverlapOnDevice,
-        line: address.line,
-        word: cut(alloc, &address.word)?,
-    }))
+    let mut finished = Vec::new(alloc);
+    for route in routes {
+        let WrittenRoute { route, line: _ } = route;
+        finished.push(route)?;
+    }
+    Ok(finished)
+}
+
+/// The lists, with their entries in order.
+fn finish_lists(alloc: Global, lists: Vec<WrittenList>) -> Result<Vec<AccessList>, NoMemory>
+    ensures { IfOk result (λ ls. ls.items ≡ map list_of lists.items) }
+{
+    let mut finished = Vec::new(alloc);
+    for list in lists {
+        finished.push(finish_list(alloc, list)?)?;
+    }
+    Ok(finished)
+}
+
+fn finish_list(alloc: Global, list: WrittenList) -> Result<AccessList, NoMemory>
+    ensures { IfOk result (λ l. l ≡ list_of list) }
+{
+    let WrittenList {
+        name,
+        extended,
+        book,
+    } = list;
+    Ok(AccessList {
+        name,
+        extended,
+        entries: book.into_entries(alloc)?,
+    })
 }
 
 /// The interfaces, without the places of their addresses.

@@ -1,12 +1,16 @@
-//! Words of a configuration that have a value: numbers, addresses and masks.
+//! Words of a configuration that have a value: numbers, addresses, masks, and the names in access lists.
 //!
 //! No call takes memory.
 #![tactic(auto)]
 
+mod names;
+
 ghost use Rattle.std.specs.Prelude.{◌≡◌, ◌+◌, ◌-◌, ◌^◌, ◌≤◌, ◌<◌, Some, IfSome, option_map, length, take, drop, position, find};
 ghost use Rattle.std.specs.List.{range_with_len};
-ghost use Rattle.ios_words.specs.Words.{number_of, octet_of, is_dot, address_of, mask_of, is_mask, mask_length_of};
+ghost use Rattle.ios_words.specs.Words.{is_numeral, number_of, octet_of, is_dot, address_of, mask_of, is_mask, mask_length_of};
 ghost use Rattle.ios_words.specs.Steps.{capped_of, capped_number, dotted_of, address_steps};
+
+pub use names::{flag, icmp, port, proto};
 
 /// The number from `low` to `high` that the word's digits write.
 ///
@@ -22,6 +26,16 @@ pub fn number(word: &[u8], low: u32, high: u32) -> Option<u32>
         return None;
     }
     Some(value as u32)
+}
+
+/// Whether the word is decimal digits alone, at least one.
+pub fn is_numeral(word: &[u8]) -> bool
+    ensures { result ≡ is_numeral word.now }
+{
+    match numeral(word) {
+        Some(_) => true,
+        None => false,
+    }
 }
 
 /// The address that the word writes: four numbers of one to three digits up to 255, with dots between.

@@ -1,4 +1,3 @@
-pub mod Size
 pub mod Hosts
 pub mod Steps
 pub mod Listing

@@ -4,5 +4,4 @@ pub mod Effects
 pub mod NameOrder
 pub mod Finds
 pub mod LeastShared
-pub mod TextSize
 pub mod TableSize

@@ -14,7 +14,7 @@ use Rattle.topo_links.specs.declared.table.LinkFail.{LinkFail}
 use Rattle.topo_links.specs.Ends.{Word, End, is_full, is_enough, is_taken, ends_of, refused}
 use Rattle.topo_links.specs.Table.{Effect, effect_of, begins_mark, kind_of, link_effect, line_with, taken_for, rows, row_of, line_effect, effects_after, effects, first_fail, table_by, table_of, is_ingress, end_names, table_names}
 use Rattle.topo_links.proofs.Effects.{rows_new}
-use Rattle.topo_links.proofs.TextSize.{words_of, words_bytes}
+use Rattle.net_text.proofs.TextSize.{words_of, words_bytes}
 
 ends_count : Result (List End) LinkFail → ℕ
 ends_count (Ok ends) = length (end_names ends)

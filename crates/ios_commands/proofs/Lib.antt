@@ -1,0 +1,2 @@
+pub mod BannerSteps
+pub mod Sides

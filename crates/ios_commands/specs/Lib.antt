@@ -1,0 +1,5 @@
+pub mod Interfaces
+pub mod Routes
+pub mod Translation
+pub mod Tables
+pub mod Banners
