@@ -4,3 +4,4 @@ pub mod CombineLemmas
 pub mod EntryLemmas
 pub mod BitLemmas
 pub mod DescentLemmas
+pub mod ReachLemmas

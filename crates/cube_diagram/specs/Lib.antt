@@ -4,3 +4,4 @@ pub mod Combined
 pub mod Entries
 pub mod Parts
 pub mod Functions
+pub mod Reach

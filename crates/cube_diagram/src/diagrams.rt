@@ -7,14 +7,18 @@ ghost use Rattle.cube_diagram.specs.Combined.{difference};
 ghost use Rattle.cube_diagram.specs.Entries.{cubes_value, first_value};
 ghost use Rattle.cube_diagram.specs.Parts.{OfPart};
 ghost use Rattle.cube_diagram.specs.Functions.{Keeps, count_of, value_at};
+ghost use Rattle.cube_diagram.specs.Reach.{GivesOnly, OfComparison};
 
 use crate::combine::{Tables, combine, make_room, new_tables};
+use crate::compare::{Comparison, compare};
 use crate::descent::{Part, divide, lookup};
 use crate::entry::{entry, first_match, first_of};
 use crate::memo::Operation;
 use crate::table::NOTHING;
+use crate::values::collect;
 use cube_alg::Piece;
 use hdr_bits::{Cube, Header};
+use indexmap::IndexSet;
 use no_memory::NoMemory;
 use std::alloc::Global;
 use std::marker::Model;
@@ -123,6 +127,32 @@ impl Diagrams {
         ensures { OfPart (value_at self.now function) cube.now result }
     {
         divide(&self.tables.table, function, cube)
+    }
+
+    /// How the two functions compare on the cube, in at most 113 steps.
+    pub fn compare(&self, a: u32, b: u32, cube: &Cube) -> Comparison
+        requires first { a < count_of self.now }
+        requires second { b < count_of self.now }
+        ensures { OfComparison (value_at self.now a) (value_at self.now b) cube.now result }
+    {
+        compare(&self.tables.table, a, b, cube)
+    }
+
+    /// The values that the function may give the headers of the cube, each once. It takes as many steps as the
+    /// function's diagram has nodes below the cube.
+    pub fn values_on(
+        &self,
+        alloc: Global,
+        function: u32,
+        cube: &Cube,
+    ) -> Result<IndexSet<u32>, NoMemory>
+        requires { function < count_of self.now }
+        ensures { IfOk result (λ values. GivesOnly (value_at self.now function) cube.now values.keys) }
+    {
+        let mut seen = IndexSet::new(alloc);
+        let mut values = IndexSet::new(alloc);
+        collect(&self.tables.table, function, cube, &mut seen, &mut values)?;
+        Ok(values)
     }
 
     /// Whether the two are equal: exactly where they have one number.

@@ -8,11 +8,14 @@
 #![tactic(auto)]
 
 mod combine;
+mod compare;
 mod descent;
 mod diagrams;
 mod entry;
 mod memo;
 mod table;
+mod values;
 
+pub use compare::Comparison;
 pub use descent::Part;
 pub use diagrams::Diagrams;

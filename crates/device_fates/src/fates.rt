@@ -1,0 +1,72 @@
+ghost use Rattle.std.specs.Prelude.{◌≡◌, [], Some, slice_get, IfOk, IfSome};
+ghost use Rattle.std.specs.Option.{option_copied};
+
+use crate::fate::Fate;
+use crate::key::{FateKey, key_of};
+use crate::same::same_fate;
+use net_types::NoMemory;
+use std::alloc::Global;
+use std::collections::HashMap;
+use std::marker::Model;
+
+/// The fates that were met, each with a number: its place. Equal fates of all devices share one number, and a number
+/// keeps its fate.
+#[derive(Drop)]
+pub struct Fates {
+    fates: Vec<Fate>,
+    numbers: HashMap<FateKey, u32>,
+}
+
+impl Model for Fates {
+    ghost use Rattle.std.specs.Prelude.{List};
+    ghost use Rattle.device_fates.specs.declared.fate.Fate.{Fate};
+
+    ghost Value = { List Fate };
+
+    ghost view = { λ f. f.fates.items };
+}
+
+impl Fates {
+    ghost use Rattle.device_fates.specs.Fates.{Grows};
+
+    /// No fates.
+    pub fn new(alloc: Global) -> Fates
+        ensures { result ≡ [] }
+    {
+        Fates {
+            fates: Vec::new(alloc),
+            numbers: HashMap::new(alloc),
+        }
+    }
+
+    /// The fate of this number; none where no fate has it.
+    pub fn get(&self, number: u32) -> Option<&Fate>
+        ensures { option_copied result ≡ slice_get self.now number }
+    {
+        self.fates.get(number as usize)
+    }
+
+    /// The number of the fate, which is added where it isn't there.
+    pub(crate) fn number_of(&mut self, alloc: Global, fate: Fate) -> Result<u32, NoMemory>
+        ensures number { IfOk result (λ number. slice_get self.new number ≡ Some fate) }
+        ensures grows { Grows self.old self.new }
+    {
+        let key = key_of(alloc, &fate)?;
+        if let Some(number) = self.known(&key, &fate) {
+            return Ok(number);
+        }
+        let number = u32::try_from(self.fates.len()).map_err(|_| NoMemory)?;
+        self.fates.push(fate)?;
+        self.numbers.insert(key, number)?;
+        Ok(number)
+    }
+
+    /// The number of the fate, if it has one; the key is that of the fate.
+    fn known(&self, key: &FateKey, fate: &Fate) -> Option<u32>
+        ensures { IfSome result (λ number. slice_get self.now number ≡ Some fate.now) }
+    {
+        let number = *self.numbers.get(key)?;
+        let there = self.get(number)?;
+        same_fate(there, fate).then_some(number)
+    }
+}

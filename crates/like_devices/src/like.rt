@@ -1,0 +1,86 @@
+ghost use Rattle.std.specs.Prelude.{◌≡◌, ◌==◌, ℕ, true, All, Contains, IfOk, find};
+ghost use Rattle.std.specs.Option.{option_copied};
+ghost use Rattle.plain_rules.specs.Borrowed.{world_of};
+ghost use Rattle.link_sends.specs.Sending.{SendAlike};
+ghost use Rattle.like_devices.specs.Like.{IsLike};
+
+use device_equality::same_device;
+use indexmap::IndexSet;
+use link_sends::Wiring;
+use net_types::{NetDevice, NoMemory, Place};
+use plain_rules::WorldRef;
+use std::alloc::Global;
+
+/// The names of devices that do the same in both worlds with whatever arrives: such as are equal in both and send alike.
+/// The wirings are those of the worlds.
+pub fn like_devices(
+    alloc: Global,
+    old: WorldRef,
+    new: WorldRef,
+    before: &Wiring,
+    after: &Wiring,
+) -> Result<IndexSet<u32>, NoMemory>
+    requires before { before.now ≡ world_of old }
+    requires after { after.now ≡ world_of new }
+    ensures { IfOk result (λ names. All (IsLike (world_of old.entry) (world_of new.entry)) names.keys) }
+{
+    let mut names = IndexSet::new(alloc);
+    for device in old.network.devices.as_slice() {
+        if !is_like(old, new, before, after, device.name) {
+            continue;
+        }
+        names.insert(device.name)?;
+    }
+    Ok(names)
+}
+
+// Whether the device of this name is known to do the same in both worlds.
+fn is_like(old: WorldRef, new: WorldRef, before: &Wiring, after: &Wiring, name: u32) -> bool
+    requires before { before.now ≡ world_of old }
+    requires after { after.now ≡ world_of new }
+    ensures { result ≡ true → IsLike (world_of old.entry) (world_of new.entry) name }
+{
+    let Some(a) = device_named(old.network.devices.as_slice(), name) else {
+        return false;
+    };
+    let Some(b) = device_named(new.network.devices.as_slice(), name) else {
+        return false;
+    };
+    if !same_device(a, b) {
+        return false;
+    }
+    send_alike(before, after, a.name, a.numbers.as_slice())
+}
+
+// The first device of that name.
+fn device_named(devices: &[NetDevice], name: u32) -> Option<&NetDevice>
+    ensures { option_copied result ≡ find (λ d. d.name == name) devices.now }
+{
+    devices.iter().find(|d| d.name == name)
+}
+
+// Whether the device's interfaces with these numbers are known to send alike in both worlds.
+fn send_alike(before: &Wiring, after: &Wiring, device: u32, numbers: &[u32]) -> bool
+    ensures { result ≡ true → (n : ℕ) → Contains numbers.now n → SendAlike before.now after.now (record { device = device; interface = n }) }
+{
+    for number in numbers {
+        let place = Place {
+            device,
+            interface: *number,
+        };
+        if !before.sends_alike(after, place) {
+            return false;
+        }
+    }
+    true
+}
+
+/// Whether the name is among these.
+pub fn has_name(names: &IndexSet<u32>, name: u32) -> bool
+    ensures { result ≡ true → Contains names.now.keys name }
+{
+    let Some((_, found)) = names.get_full(&name) else {
+        return false;
+    };
+    *found == name
+}
