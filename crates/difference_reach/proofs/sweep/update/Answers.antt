@@ -1,0 +1,11 @@
+use Rattle.std.proofs.Common.{◌<◌, length, refl, sym, ap, ◌∙◌, arith, Some}
+use Rattle.std.proofs.lemmas.Option.{slice_get-get_or, slice_get_read}
+use Rattle.difference_reach.proofs.Kept.{settled_at}
+use Rattle.difference_reach.proofs.sweep.update.Goals as goal
+
+pub returns-then-after-before-clause-settled : goal.returns-then-after-before-clause-settled
+returns-then-after-before-clause-settled c t =
+    let stops = c.args.stops.now in
+    let numbers = c.args.numbers.now in
+    let within : c.args.index < length numbers = omega (arith, c.requires.within, c.requires.length) in
+    settled_at c.args.table.now c.grown.new.table stops numbers c.args.index c.index-stops-index.result c.in_ok-after.after c.in_ok-after.ensures.kept c.requires.numbers c.requires.stops (slice_get_read stops (length stops) c.args.index c.index-stops-index.result refl c.requires.within c.index-stops-index.is) (slice_get-get_or numbers c.args.index 0 within ∙ ap Some (sym c.if-after-before.true)) c.in_ok-after.ensures.passed

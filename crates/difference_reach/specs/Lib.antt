@@ -1,0 +1,4 @@
+pub mod Ways
+pub mod Stops
+pub mod Growth
+pub mod Closed

@@ -1,0 +1,9 @@
+pub mod SetLemmas
+pub mod TraceLemmas
+pub mod RelativeMoves
+pub mod LevelLemmas
+pub mod NumberLemmas
+pub mod Turns
+pub mod LoopLemmas
+pub mod SpotEquality
+pub mod ReachLemmas

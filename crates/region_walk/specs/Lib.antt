@@ -1,0 +1,10 @@
+pub mod Lists
+pub mod Steps
+pub mod Traces
+pub mod Spots
+pub mod Visits
+pub mod Seen
+pub mod Reached
+pub mod Courses
+pub mod Region
+pub mod Answers

@@ -1,0 +1,73 @@
+use crate::level::Level;
+use crate::outcomes::all_outcomes;
+use crate::visit::Visit;
+use hdr_bits::Cube;
+use net_types::{Label, NoMemory, Place};
+use std::alloc::Global;
+use std::marker::Model;
+use transfer_rel::{Prepared, Version};
+
+/// The walks of at most 254 moves of all headers of a cube that enter at a place.
+#[derive(Drop)]
+pub struct Graph<'a> {
+    prepared: &'a Prepared<'a>,
+    version: Version,
+    place: Place,
+    cube: Cube,
+    visits: Vec<Visit>,
+    levels: Vec<Level>,
+}
+
+impl<'a> Model for Graph<'a> {
+    ghost use Rattle.region_walk.specs.Region.{Region};
+    ghost use Rattle.region_walk.specs.Visits.{IsGraph};
+    ghost use Rattle.transfer_rel.specs.CubeMoves.{world_in};
+
+    ghost Value = { Region };
+
+    ghost view = { λ g. record { world = world_in g.prepared.now g.version; place = g.place; cube = g.cube } };
+
+    ghost invariant = { λ g. IsGraph (world_in g.prepared.now g.version) g.cube g.place g.visits.items g.levels.items };
+}
+
+impl<'a> Graph<'a> {
+    ghost use Rattle.std.specs.Prelude.{◌≡◌, ◌≤◌, IfOk};
+    ghost use Rattle.hdr_bits.specs.declared.header.Header.{Header};
+    ghost use Rattle.hdr_bits.specs.HeaderBits.{number, IsHeader};
+    ghost use Rattle.hdr_bits.specs.CubeBits.{IsIn};
+    ghost use Rattle.net_types.specs.Walks.{label};
+    ghost use Rattle.region_walk.specs.Visits.{IsGraph};
+    ghost use Rattle.transfer_rel.specs.CubeMoves.{world_in};
+
+    /// The graph of these visits and levels.
+    pub(crate) fn new(
+        prepared: &'a Prepared<'a>,
+        version: Version,
+        place: Place,
+        cube: Cube,
+        visits: Vec<Visit>,
+        levels: Vec<Level>,
+    ) -> Graph<'a>
+        requires { IsGraph (world_in prepared.now version) cube place visits.items levels.items }
+        ensures { result ≡ record { world = world_in prepared.now version; place = place; cube = cube } }
+    {
+        Graph {
+            prepared,
+            version,
+            place,
+            cube,
+            visits,
+            levels,
+        }
+    }
+
+    /// The label that each header of the cube has when it enters at the place with this TTL.
+    pub fn label(&self, alloc: Global, ttl: u8) -> Result<Label, NoMemory>
+        requires { 1 ≤ ttl }
+        ensures { IfOk result (λ answer. (h : Header) → IsHeader h → IsIn self.now.cube (number h) → answer ≡ label self.now.world ttl self.now.place h) }
+    {
+        let outcomes = all_outcomes(alloc, &self.visits, &self.levels, ttl)?;
+        let label = Label::of(outcomes)?;
+        Ok(label)
+    }
+}

@@ -1,0 +1,17 @@
+//! The walks of all headers of a cube at once: a graph for a whole region of headers, or the halves of the region where
+//! some device looks at a bit that the cube leaves open.
+#![tactic(auto)]
+
+mod graph;
+mod level;
+mod outcomes;
+mod reach;
+mod regions;
+mod shortcut;
+mod spot;
+mod visit;
+mod walk;
+
+pub use graph::Graph;
+pub use regions::{Explored, explore};
+pub use shortcut::{Touch, touch_of};

@@ -1,0 +1,252 @@
+//! Forwarding: what a device does with the destination, and each choice of the lookup.
+
+ghost use Rattle.std.specs.Prelude.{◌≡◌, ◌∷◌, [], ℕ, Some, None, Contains, IfOk, OnOk, map, slice_get, true};
+ghost use Rattle.hdr_bits.specs.declared.header.Header.{Header};
+ghost use Rattle.hdr_bits.specs.HeaderBits.{number, IsHeader};
+ghost use Rattle.hdr_bits.specs.CubeBits.{IsIn};
+ghost use Rattle.plain_rules.specs.Borrowed.{port_of, world_of};
+ghost use Rattle.net_types.specs.Moves.{move_by, moves_in};
+ghost use Rattle.fib_lookup.specs.Forms.{hop_of};
+ghost use Rattle.device_fates.specs.Fates.{HasFate, IsFate};
+ghost use Rattle.transfer_rel.specs.declared.moves.CubeMoves.TheVariants.{Same};
+ghost use Rattle.transfer_rel.specs.declared.moves.StampMove.TheVariants.{Local};
+ghost use Rattle.transfer_rel.specs.Forms.{IsDeviceForm};
+ghost use Rattle.transfer_rel.specs.Stages.{AddsChoice, AddsMove, OfMovesAfter, after};
+
+use crate::forms::{NetworkForm, Tables};
+use crate::leave::{Left, leave_by};
+use crate::view::View;
+use crate::{CubeMoves, StampMove};
+use cube_alg::Stamp;
+use cube_diagram::Part;
+use device_fates::Fate;
+use fib_lookup::HopForm;
+use hdr_bits::Cube;
+use net_types::{List, NetDevice, NoMemory, Place};
+use std::alloc::Global;
+
+/// The moves of headers that came in, with the stamp that made them, as headers of the cube.
+pub(crate) fn forward(
+    alloc: Global,
+    tables: &Tables,
+    network: &NetworkForm,
+    view: View,
+    stamp: Stamp,
+    cube: &Cube,
+) -> Result<CubeMoves, NoMemory>
+    requires device { IsDeviceForm tables.now.diagrams tables.now.fates view.port.device.now view.device.now }
+    requires wiring { network.now.wiring ≡ world_of network.now.world }
+    ensures { IfOk result (λ answer. OfMovesAfter (moves_in (world_of network.now.world) (port_of view.entry.port)) stamp cube.now answer) }
+{
+    match tables.diagrams.divide(view.device.fates, cube) {
+        Part::Divided { place } => Ok(CubeMoves::Divides { place }),
+        Part::Whole { value } => by_number(alloc, tables, network, view, value, stamp, cube),
+    }
+}
+
+// By the number of the fate, which all headers of the cube have.
+fn by_number(
+    alloc: Global,
+    tables: &Tables,
+    network: &NetworkForm,
+    view: View,
+    value: Option<u32>,
+    stamp: Stamp,
+    cube: &Cube,
+) -> Result<CubeMoves, NoMemory>
+    requires device { IsDeviceForm tables.now.diagrams tables.now.fates view.port.device.now view.device.now }
+    requires wiring { network.now.wiring ≡ world_of network.now.world }
+    requires fate { (g : Header) → IsHeader g → IsIn cube.now (number g) → HasFate view.port.device.now.config tables.now.fates value g.dst }
+    ensures { IfOk result (λ answer. OfMovesAfter (moves_in (world_of network.now.world) (port_of view.entry.port)) stamp cube.now answer) }
+{
+    let Some(number) = value else {
+        let answer = just(alloc, StampMove::Drop)?;
+        return Ok(answer);
+    };
+    let Some(fate) = tables.fates.get(number) else {
+        let answer = just(alloc, StampMove::Drop)?;
+        return Ok(answer);
+    };
+    by_fate(alloc, tables, network, view, fate, stamp, cube)
+}
+
+fn by_fate(
+    alloc: Global,
+    tables: &Tables,
+    network: &NetworkForm,
+    view: View,
+    fate: &Fate,
+    stamp: Stamp,
+    cube: &Cube,
+) -> Result<CubeMoves, NoMemory>
+    requires device { IsDeviceForm tables.now.diagrams tables.now.fates view.port.device.now view.device.now }
+    requires wiring { network.now.wiring ≡ world_of network.now.world }
+    requires fate { (g : Header) → IsHeader g → IsIn cube.now (number g) → IsFate view.port.device.now.config fate.now g.dst }
+    ensures { IfOk result (λ answer. OfMovesAfter (moves_in (world_of network.now.world) (port_of view.entry.port)) stamp cube.now answer) }
+{
+    match fate {
+        Fate::Dropped => {
+            let answer = just(alloc, StampMove::Drop)?;
+            Ok(answer)
+        }
+        Fate::Own { position } => {
+            let answer = local(alloc, view.port.device, *position)?;
+            Ok(answer)
+        }
+        Fate::Sent { choices } => {
+            let choices = choices.as_slice();
+            let answer = by_choices(alloc, tables, network, view, choices, stamp, cube)?;
+            Ok(answer)
+        }
+    }
+}
+
+// It is for the interface at this position.
+fn local(alloc: Global, device: &NetDevice, position: u32) -> Result<CubeMoves, NoMemory>
+    ensures { IfOk result (λ answer. (n : ℕ) → Some n ≡ slice_get device.now.numbers position → answer ≡ Same (Local (record { device = device.now.name; interface = n }) ∷ [])) }
+{
+    let Some(number) = number_at(device.numbers.as_slice(), position) else {
+        return just(alloc, StampMove::Drop);
+    };
+    let place = Place {
+        device: device.name,
+        interface: number,
+    };
+    just(alloc, StampMove::Local { place })
+}
+
+fn number_at(numbers: &[u32], position: u32) -> Option<u32>
+    ensures { result ≡ slice_get numbers.now position }
+{
+    numbers.get(position as usize).copied()
+}
+
+fn by_choices(
+    alloc: Global,
+    tables: &Tables,
+    network: &NetworkForm,
+    view: View,
+    choices: &[HopForm],
+    stamp: Stamp,
+    cube: &Cube,
+) -> Result<CubeMoves, NoMemory>
+    requires device { IsDeviceForm tables.now.diagrams tables.now.fates view.port.device.now view.device.now }
+    requires wiring { network.now.wiring ≡ world_of network.now.world }
+    ensures { IfOk result (λ answer. OfMovesAfter (λ g. map (move_by (world_of network.now.world) (port_of view.entry.port) g) (map (hop_of g.dst) choices.now)) stamp cube.now answer) }
+{
+    let mut moves = Vec::new(alloc);
+    for form in choices {
+        let left = leave_by(tables, network, view, form, cube);
+        if let Some(place) = add_choice(&mut moves, left, &stamp)? {
+            return Ok(CubeMoves::Divides { place });
+        }
+    }
+    Ok(CubeMoves::Same {
+        moves: List::new(moves),
+    })
+}
+
+// Adds the move of a choice, or answers the place that it leaves open.
+fn add_choice(
+    moves: &mut Vec<StampMove>,
+    left: Left,
+    stamp: &Stamp,
+) -> Result<Option<u32>, NoMemory>
+    ensures { IfOk result (AddsChoice stamp.now left moves.old.items moves.new.items) }
+{
+    match left {
+        Left::Divides { place } => Ok(Some(place)),
+        Left::Same { step } => {
+            add_move(moves, after(stamp, step))?;
+            Ok(None)
+        }
+    }
+}
+
+// The move, of headers that the stamp made.
+fn after(stamp: &Stamp, step: StampMove) -> StampMove
+    ensures { result ≡ after stamp.now step }
+{
+    match step {
+        StampMove::Exit {
+            place,
+            stamp: later,
+        } => StampMove::Exit {
+            place,
+            stamp: stamp.then(&later),
+        },
+        StampMove::Go {
+            place,
+            stamp: later,
+        } => StampMove::Go {
+            place,
+            stamp: stamp.then(&later),
+        },
+        StampMove::Drop => StampMove::Drop,
+        StampMove::Local { place } => StampMove::Local { place },
+        StampMove::Lost => StampMove::Lost,
+    }
+}
+
+// Adds the move where it isn't there yet.
+fn add_move(moves: &mut Vec<StampMove>, step: StampMove) -> Result<(), NoMemory>
+    ensures { OnOk result (AddsMove step moves.old.items moves.new.items) }
+{
+    if has_move(moves, &step) {
+        return Ok(());
+    }
+    moves.push(step)?;
+    Ok(())
+}
+
+/// Whether the move is among these.
+pub(crate) fn has_move(moves: &[StampMove], step: &StampMove) -> bool
+    ensures { result ≡ true → Contains moves.now step.now }
+{
+    for m in moves {
+        if same_move(m, step) {
+            return true;
+        }
+    }
+    false
+}
+
+fn same_move(a: &StampMove, b: &StampMove) -> bool
+    ensures { result ≡ true → a.now ≡ b.now }
+{
+    match (*a, *b) {
+        (StampMove::Drop, StampMove::Drop) => true,
+        (StampMove::Lost, StampMove::Lost) => true,
+        (StampMove::Local { place: p }, StampMove::Local { place: q }) => same_place(p, q),
+        (StampMove::Exit { place: p, stamp: s }, StampMove::Exit { place: q, stamp: t }) => {
+            same_place(p, q) && same_stamp(s, t)
+        }
+        (StampMove::Go { place: p, stamp: s }, StampMove::Go { place: q, stamp: t }) => {
+            same_place(p, q) && same_stamp(s, t)
+        }
+        _ => false,
+    }
+}
+
+pub(crate) fn same_place(p: Place, q: Place) -> bool
+    ensures { result ≡ true → p ≡ q }
+{
+    p == q
+}
+
+pub(crate) fn same_stamp(s: Stamp, t: Stamp) -> bool
+    ensures { result ≡ true → s ≡ t }
+{
+    s == t
+}
+
+/// This move alone.
+pub(crate) fn just(alloc: Global, step: StampMove) -> Result<CubeMoves, NoMemory>
+    ensures { IfOk result (λ answer. answer ≡ Same (step ∷ [])) }
+{
+    let mut moves = Vec::new(alloc);
+    moves.push(step)?;
+    Ok(CubeMoves::Same {
+        moves: List::new(moves),
+    })
+}
