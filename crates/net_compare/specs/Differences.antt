@@ -1,6 +1,5 @@
 -- Cubes of headers that two networks treat differently, and their rows.
 use Rattle.std.specs.Prelude.{ℕ, ◌≡◌, ◌<◌, ◌^◌, List, [], ◌∷◌, Option, Some, None, slice_get, option_map, if◌then◌else◌}
-use Rattle.std.specs.Option.{option_or}
 use Rattle.hdr_bits.specs.declared.cube.Cube.{Cube}
 use Rattle.hdr_bits.specs.CubeBits.{IsIn, is_in}
 use Rattle.canon_rows.specs.declared.Piece.{Piece}
@@ -34,7 +33,3 @@ shown r = (r.cube, (r.old, r.new))
 -- the row of a piece whose number is in the table
 abbrev pub shown_by : List (List Outcome × List Outcome) → Piece → Option (Cube × (List Outcome × List Outcome))
 shown_by pairs p = option_map (λ pair. (p.cube, pair)) (slice_get pairs p.value)
-
--- what f gives to the headers of the cube was added, behind what was there
-pub record AddsCube (f : ℕ → Option (List Outcome × List Outcome)) (c : Cube) (old new : List Difference) : Type 0 where
-  pub told : (h : ℕ) → h < 2 ^ 112 → labels_of new h ≡ option_or (labels_of old h) (if is_in c h then f h else None)

@@ -1,6 +1,4 @@
 pub mod Differences
-pub mod LoneDevice
+pub mod Networks
 pub mod Numbers
-pub mod Parts
-pub mod Plain
-pub mod Prefixes
+pub mod Regions

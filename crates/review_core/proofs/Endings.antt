@@ -1,5 +1,5 @@
 -- How a run ends: what the report and its status say, and what a stop and its status say.
-use Rattle.std.proofs.Common.{◌≡◌, ◌⊎◌, inl, inr, ℕ, ◌≤◌, ◌++◌, List, Option, Some, None, Result, Ok, Err, IfSome, refl, sym, ap, subst, ◌∙◌, arith}
+use Rattle.std.proofs.Common.{◌≡◌, ◌⊎◌, inl, inr, ℕ, ◌≤◌, ◌++◌, List, Option, Some, None, Ok, Err, IfSome, ap, subst, ◌∙◌, arith}
 use Rattle.std.specs.Prelude.{option_map}
 use Rattle.net_io.specs.Files.{Told}
 use Rattle.net_io.specs.Sink.{TookPrefix}
@@ -13,8 +13,6 @@ use Rattle.review_core.specs.Job.{Does, Wrote, WrotePart, StoppedWith, Said, Tel
 stop_status : (s : Stop) → 3 ≤ status_of s
 stop_status (stop.RefusedConfig path refusal) = omega arith
 stop_status (stop.HostnameTaken first second) = omega arith
-stop_status (stop.NotOneDevice folder) = omega arith
-stop_status (stop.NotCompared path what) = omega arith
 stop_status (stop.RefusedLinks path kind line word) = omega arith
 stop_status (stop.CannotRead path) = omega arith
 stop_status (stop.TooLong path) = omega arith

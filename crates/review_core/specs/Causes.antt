@@ -1,5 +1,5 @@
 -- A count of faults over a step of a job.
-use Rattle.std.specs.Prelude.{ℕ, ◌≤◌, Result, Ok, Err, IfErr}
+use Rattle.std.specs.Prelude.{ℕ, ◌≤◌, Result, IfErr}
 use Rattle.net_io.specs.Faults.{Rose}
 use Rattle.review_core.specs.declared.stop.Stop.{Stop}
 use Rattle.review_core.specs.declared.stop.Stop.TheVariants as stop

@@ -1,22 +1,21 @@
 -- A job: what the words ask, over what the files tell alone.
-use Rattle.std.specs.Prelude.{◌≡◌, ◌⊎◌, ℕ, Bool, List, [], ◌∷◌, Option, None, Result, Ok, Err, nat_lt, length, slice_get, unwrap_or, option_map, ◌++◌, if◌then◌else◌}
-use Rattle.std.specs.List.{list_any, AllByRecursion}
+use Rattle.std.specs.Prelude.{◌≡◌, ◌⊎◌, ℕ, Bool, List, [], Option, Result, Ok, Err, nat_lt, length, slice_get, unwrap_or, option_map, ◌++◌, if◌then◌else◌}
+use Rattle.std.specs.List.{list_any}
 use Rattle.net_types.specs.declared.config.Loaded.{Loaded}
 use Rattle.net_types.specs.declared.network.Section.{Section}
 use Rattle.net_types.specs.Report.{IsReport}
 use Rattle.net_io.specs.Faults.{Rose}
 use Rattle.net_io.specs.Files.{Told}
 use Rattle.net_io.specs.Sink.{TookPrefix}
-use Rattle.topo_links.specs.declared.table.LinkTable.{LinkTable}
 use Rattle.net_load.specs.declared.numbering.Numbered.{Numbered}
 use Rattle.net_load.specs.Numbering.{numbered_of}
-use Rattle.net_compare.specs.Plain.{world}
+use Rattle.net_compare.specs.Networks.{world}
 use Rattle.report_text.specs.ReportText.{report_text}
 use Rattle.review_core.specs.declared.comparison.Report.{Report}
 use Rattle.review_core.specs.declared.stop.Stop.{Stop}
 use Rattle.review_core.specs.declared.stop.Stop.TheVariants as stop
 use Rattle.review_core.specs.Stops.{status_of, line_of}
-use Rattle.review_core.specs.Steps.{Then, GivesDevice, GivesTable, beyond_of}
+use Rattle.review_core.specs.Steps.{Then, GivesFolder, GivesTable}
 
 abbrev pub has_rows : Section → Bool
 has_rows s = nat_lt 0 (length s.rows)
@@ -33,19 +32,15 @@ Reports n (Ok r) = IsReportOn n r
 Reports n (Err stop.NoMemory) = Unit {0}
 Reports n (Err _) = ⊥
 
-abbrev pub networks : Loaded → Loaded → LinkTable → Numbered
-networks old new table = numbered_of (old ∷ []) (new ∷ []) table []
-
 -- `compare OLD NEW LINKS`: the old folder, then the new one, then the link table, and the report on them
-abbrev pub ComparesOver : Told → Loaded → Loaded → List ℕ → Result Report Stop → Type 0
-ComparesOver t old new links =
-    Then (GivesTable t links (old ∷ []) (new ∷ [])) (λ table. Reports (networks old new table))
+abbrev pub ComparesOver : Told → List Loaded → List Loaded → List ℕ → Result Report Stop → Type 0
+ComparesOver t old new links = Then (GivesTable t links old new) (λ table. Reports (numbered_of old new table []))
 
-abbrev pub ComparesWith : Told → Loaded → List ℕ → List ℕ → Result Report Stop → Type 0
-ComparesWith t old new links = Then (GivesDevice t new) (λ device. ComparesOver t old device links)
+abbrev pub ComparesWith : Told → List Loaded → List ℕ → List ℕ → Result Report Stop → Type 0
+ComparesWith t old new links = Then (GivesFolder (λ devices. devices) t new) (λ devices. ComparesOver t old devices links)
 
 abbrev pub Compares : Told → List ℕ → List ℕ → List ℕ → Result Report Stop → Type 0
-Compares t old new links = Then (GivesDevice t old) (λ device. ComparesWith t device new links)
+Compares t old new links = Then (GivesFolder (λ devices. devices) t old) (λ devices. ComparesWith t devices new links)
 
 abbrev pub word_at : List (List ℕ) → ℕ → List ℕ
 word_at words i = unwrap_or (slice_get words i) []
@@ -69,10 +64,6 @@ WrotePart words t before now = (r : Report) × Does words t (Ok r) × TookPrefix
 -- a line on the error output, where that didn't fail
 pub record Said (line : List ℕ) (before now : Option (List ℕ)) (faults_before faults_now : ℕ) : Type 0 where
   pub taken : (Rose faults_before faults_now → ⊥) → now ≡ option_map (λ taken. taken ++ line) before
-
--- each configuration has nothing that is not compared yet
-abbrev pub IsPlainFolder : List Loaded → Type 0
-IsPlainFolder folder = AllByRecursion (λ l. beyond_of l.config ≡ None) folder
 
 -- why there is no report, or that there was no memory to say it
 abbrev pub Tells : Stop → ℕ → Option (List ℕ) → Option (List ℕ) → ℕ → ℕ → Type 0

@@ -1,11 +1,9 @@
 -- Why a job ends without a report: the status, and the line on the error output.
 use Rattle.std.specs.Prelude.{ℕ, List, [], ◌∷◌, ◌++◌, codes, decimal}
-use Rattle.ios_config.specs.declared.fault.Kind.{Kind}
-use Rattle.ios_config.specs.declared.fault.Kind.TheVariants as kind
+use Rattle.ios_lines.specs.declared.fault.Kind.{Kind}
+use Rattle.ios_lines.specs.declared.fault.Kind.TheVariants as kind
 use Rattle.topo_links.specs.declared.table.LinkRefusal.{LinkRefusal}
 use Rattle.topo_links.specs.declared.table.LinkRefusal.TheVariants as links
-use Rattle.review_core.specs.declared.stop.Beyond.{Beyond}
-use Rattle.review_core.specs.declared.stop.Beyond.TheVariants as beyond
 use Rattle.review_core.specs.declared.stop.Stop.{Stop}
 use Rattle.review_core.specs.declared.stop.Stop.TheVariants as stop
 use Rattle.review_core.specs.declared.stop.TheConstants.{NO_MEMORY}
@@ -13,8 +11,6 @@ use Rattle.review_core.specs.declared.stop.TheConstants.{NO_MEMORY}
 abbrev pub status_of : Stop → ℕ
 status_of (stop.RefusedConfig path refusal) = 3
 status_of (stop.HostnameTaken first second) = 3
-status_of (stop.NotOneDevice folder) = 3
-status_of (stop.NotCompared path what) = 3
 status_of (stop.RefusedLinks path kind line word) = 3
 status_of (stop.CannotRead path) = 4
 status_of (stop.TooLong path) = 5
@@ -46,12 +42,6 @@ link_refusal_text links.NoIngress = codes "NoIngress"
 link_refusal_text links.UnknownDevice = codes "UnknownDevice"
 link_refusal_text links.AddressTwice = codes "AddressTwice"
 
--- the word for what is not compared yet
-abbrev pub beyond_text : Beyond → List ℕ
-beyond_text beyond.AccessGroup = codes "access-group"
-beyond_text beyond.Route = codes "route"
-beyond_text beyond.Nat = codes "nat"
-
 -- a word behind a blank, or nothing where there is none
 abbrev pub word_text : List ℕ → List ℕ
 word_text [] = []
@@ -74,8 +64,6 @@ refused_line path n kind word = refused_head path n ++ refused_tail kind word
 abbrev pub line_of : Stop → List ℕ
 line_of (stop.RefusedConfig path refusal) = refused_line path refusal.line (config_kind_text refusal.kind) refusal.word
 line_of (stop.HostnameTaken first second) = codes "refused " ++ second ++ codes " hostname taken by " ++ first ++ 10 ∷ []
-line_of (stop.NotOneDevice folder) = codes "refused " ++ folder ++ codes " line 0 NotCovered" ++ 10 ∷ []
-line_of (stop.NotCompared path what) = codes "refused " ++ path ++ codes " line 0 NotCovered " ++ beyond_text what ++ 10 ∷ []
 line_of (stop.RefusedLinks path kind line word) = refused_line path line (link_refusal_text kind) word
 line_of (stop.CannotRead path) = path_line (codes "cannot read ") path
 line_of (stop.TooLong path) = path_line (codes "too long ") path

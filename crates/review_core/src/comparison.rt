@@ -1,13 +1,11 @@
-ghost use Rattle.std.specs.Prelude.{◌≡◌, ◌≤◌, ◌<◌, ◌^◌, ◌∷◌, [], None, IfOk, IfSome, length};
+ghost use Rattle.std.specs.Prelude.{◌≡◌, ◌≤◌, ◌<◌, ◌^◌, [], IfOk, IfSome, length};
 ghost use Rattle.std.specs.List.{list_any};
-ghost use Rattle.net_load.specs.Numbering.{count_names, config_names, folder_names, numbered_of};
+ghost use Rattle.net_load.specs.Numbering.{count_names, folder_names, numbered_of};
 ghost use Rattle.topo_links.specs.Table.{table_names};
 ghost use Rattle.review_core.specs.Causes.{HasCause};
-ghost use Rattle.review_core.specs.Steps.{beyond_of, first_segment};
-ghost use Rattle.review_core.specs.Job.{Compares, ComparesWith, ComparesOver};
-ghost use Rattle.review_core.specs.Job.{IsReportOn, Reports, has_rows, IsPlainFolder};
+ghost use Rattle.review_core.specs.Job.{Compares, ComparesWith, ComparesOver, IsReportOn, Reports, has_rows};
 
-use crate::folder::one_device;
+use crate::folder::read_folder;
 use crate::stop::Stop;
 use crate::table::read_table;
 use net_compare::compare;
@@ -38,7 +36,7 @@ pub(crate) fn compare_folders<F: Files>(
     ensures cause { HasCause (F.faults files.old) (F.faults files.new) result }
     ensures same { F.told files.new ≡ F.told files.old }
 {
-    match one_device(alloc, files, old) {
+    match read_folder(alloc, files, old) {
         Ok(old) => compare_with(alloc, files, old, new, links),
         Err(stop) => Err(stop),
     }
@@ -48,17 +46,16 @@ pub(crate) fn compare_folders<F: Files>(
 fn compare_with<F: Files>(
     alloc: Global,
     files: &mut F,
-    old: Loaded,
+    old: Vec<Loaded>,
     new: &str,
     links: &str,
 ) -> Result<Report, Stop>
-    requires names { length (config_names old.config) ≤ 67108864 }
-    requires plain { beyond_of old.config ≡ None }
-    ensures job { IfSome (F.told files.old) (λ t. ComparesWith t old new.now links.now result) }
+    requires { length (folder_names old.items) ≤ 67108864 }
+    ensures job { IfSome (F.told files.old) (λ t. ComparesWith t old.items new.now links.now result) }
     ensures cause { HasCause (F.faults files.old) (F.faults files.new) result }
     ensures same { F.told files.new ≡ F.told files.old }
 {
-    match one_device(alloc, files, new) {
+    match read_folder(alloc, files, new) {
         Ok(new) => compare_over(alloc, files, old, new, links),
         Err(stop) => Err(stop),
     }
@@ -68,20 +65,16 @@ fn compare_with<F: Files>(
 fn compare_over<F: Files>(
     alloc: Global,
     files: &mut F,
-    old: Loaded,
-    new: Loaded,
+    old: Vec<Loaded>,
+    new: Vec<Loaded>,
     links: &str,
 ) -> Result<Report, Stop>
-    requires old_names { length (config_names old.config) ≤ 67108864 }
-    requires old_plain { beyond_of old.config ≡ None }
-    requires new_names { length (config_names new.config) ≤ 67108864 }
-    requires new_plain { beyond_of new.config ≡ None }
-    ensures job { IfSome (F.told files.old) (λ t. ComparesOver t old new links.now result) }
+    requires old { length (folder_names old.items) ≤ 67108864 }
+    requires new { length (folder_names new.items) ≤ 67108864 }
+    ensures job { IfSome (F.told files.old) (λ t. ComparesOver t old.items new.items links.now result) }
     ensures cause { HasCause (F.faults files.old) (F.faults files.new) result }
     ensures same { F.told files.new ≡ F.told files.old }
 {
-    let old = alone(alloc, old)?;
-    let new = alone(alloc, new)?;
     match read_table(alloc, files, links, &old, &new) {
         Ok(table) => report_over(alloc, old, new, &table),
         Err(stop) => Err(stop),
@@ -94,37 +87,23 @@ fn report_over(
     new: Vec<Loaded>,
     table: &LinkTable,
 ) -> Result<Report, Stop>
-    requires old_names { length (folder_names old.items) ≤ 67108864 }
-    requires old { IsPlainFolder old.items }
-    requires new_names { length (folder_names new.items) ≤ 67108864 }
-    requires new { IsPlainFolder new.items }
-    requires table_names { length (table_names table.now) ≤ 16777216 }
-    requires segments { first_segment table.now.lines ≡ None }
+    requires old { length (folder_names old.items) ≤ 67108864 }
+    requires new { length (folder_names new.items) ≤ 67108864 }
+    requires table { length (table_names table.now) ≤ 16777216 }
     ensures { Reports (numbered_of old.items new.items table.now []) result }
 {
     let report = report_on(alloc, old, new, table)?;
     Ok(report)
 }
 
-fn alone(alloc: Global, device: Loaded) -> Result<Vec<Loaded>, NoMemory>
-    ensures { IfOk result (λ devices. devices.items ≡ device ∷ []) }
-{
-    let mut devices = Vec::new(alloc);
-    devices.push(device)?;
-    Ok(devices)
-}
-
-// The report on two networks of one device each, without segments.
+// The report on two networks with these links.
 fn report_on(
     alloc: Global,
     old: Vec<Loaded>,
     new: Vec<Loaded>,
     table: &LinkTable,
 ) -> Result<Report, NoMemory>
-    requires names { count_names old.items new.items table.now [] < 2 ^ 32 }
-    requires old { IsPlainFolder old.items }
-    requires new { IsPlainFolder new.items }
-    requires segments { first_segment table.now.lines ≡ None }
+    requires { count_names old.items new.items table.now [] < 2 ^ 32 }
     ensures { IfOk result (λ report. IsReportOn (numbered_of old.items new.items table.now []) report) }
 {
     let numbered = number_all(alloc, old, new, table, &[])?;

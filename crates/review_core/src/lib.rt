@@ -9,8 +9,5 @@ mod top;
 mod words;
 
 pub use comparison::Report;
-pub use stop::{Beyond, Stop};
+pub use stop::Stop;
 pub use top::{USAGE, run};
-
-#[cfg(test)]
-mod tests;

@@ -1,8 +1,8 @@
 ghost use Rattle.std.specs.Prelude.{◌≡◌, ◌++◌, ◌∷◌, [], IfOk, OnOk};
-ghost use Rattle.review_core.specs.Stops.{status_of, line_of, config_kind_text, word_text, link_refusal_text, beyond_text};
+ghost use Rattle.review_core.specs.Stops.{status_of, line_of, config_kind_text, word_text, link_refusal_text};
 ghost use Rattle.review_core.specs.Stops.{refused_head, refused_tail, refused_line};
 
-use ios_config::{Kind, Refusal};
+use ios_lines::{Kind, Refusal};
 use net_types::{NoMemory, Text};
 use report_text::decimal_bytes;
 use std::alloc::Global;
@@ -10,17 +10,6 @@ use topo_links::LinkRefusal;
 
 /// What is written where there is no memory.
 pub(crate) const NO_MEMORY: &[u8] = b"no memory\n";
-
-/// What a configuration may have that is not compared yet.
-#[derive(Clone, Copy, Debug, PartialEq, Eq)]
-pub enum Beyond {
-    /// An interface names an access list.
-    AccessGroup,
-    /// There is a static route.
-    Route,
-    /// There is a rule of address translation.
-    Nat,
-}
 
 /// Why a job ends without a report.
 #[derive(Drop)]
@@ -34,15 +23,6 @@ pub enum Stop {
     HostnameTaken {
         first: Text,
         second: Text,
-    },
-    /// A folder that hasn't exactly one device: more are not compared yet.
-    NotOneDevice {
-        folder: Text,
-    },
-    /// A configuration with something that is not compared yet; the word says what.
-    NotCompared {
-        path: Text,
-        beyond: Beyond,
     },
     /// A link table is refused.
     RefusedLinks {
@@ -90,8 +70,6 @@ impl Stop {
         match self {
             Stop::RefusedConfig { .. } => 3,
             Stop::HostnameTaken { .. } => 3,
-            Stop::NotOneDevice { .. } => 3,
-            Stop::NotCompared { .. } => 3,
             Stop::RefusedLinks { .. } => 3,
             Stop::CannotRead { .. } => 4,
             Stop::TooLong { .. } => 5,
@@ -113,16 +91,6 @@ impl Stop {
             Stop::HostnameTaken { first, second } => {
                 append_with(&mut line, b"refused ", second)?;
                 append_with(&mut line, b" hostname taken by ", first)?;
-                append(&mut line, b"\n")?;
-            }
-            Stop::NotOneDevice { folder } => {
-                append_with(&mut line, b"refused ", folder)?;
-                append(&mut line, b" line 0 NotCovered\n")?;
-            }
-            Stop::NotCompared { path, beyond } => {
-                append_with(&mut line, b"refused ", path)?;
-                append(&mut line, b" line 0 NotCovered ")?;
-                append(&mut line, beyond_word(*beyond).as_bytes())?;
                 append(&mut line, b"\n")?;
             }
             Stop::RefusedLinks {
@@ -267,15 +235,5 @@ fn link_refusal_name(kind: LinkRefusal) -> &'static str
         LinkRefusal::NoIngress => "NoIngress",
         LinkRefusal::UnknownDevice => "UnknownDevice",
         LinkRefusal::AddressTwice => "AddressTwice",
-    }
-}
-
-fn beyond_word(beyond: Beyond) -> &'static str
-    ensures { result.now ≡ beyond_text beyond }
-{
-    match beyond {
-        Beyond::AccessGroup => "access-group",
-        Beyond::Route => "route",
-        Beyond::Nat => "nat",
     }
 }

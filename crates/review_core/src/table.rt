@@ -1,16 +1,15 @@
-ghost use Rattle.std.specs.Prelude.{◌≡◌, ◌≤◌, None, IfOk, IfSome, length, find};
-ghost use Rattle.std.specs.Option.{option_copied};
+ghost use Rattle.std.specs.Prelude.{◌≡◌, ◌≤◌, IfOk, IfSome, length};
 ghost use Rattle.net_io.specs.Files.{content};
 ghost use Rattle.net_io.specs.declared.reading.TheConstants.{FILE_LIMIT};
 ghost use Rattle.topo_links.specs.Table.{table_names};
 ghost use Rattle.review_core.specs.Causes.{HasCause};
-ghost use Rattle.review_core.specs.Steps.{GivesBytes, GivesTable, IsChecked, SaysTable, is_segment, first_segment, kind_word};
+ghost use Rattle.review_core.specs.Steps.{GivesBytes, GivesTable, IsChecked, SaysTable};
 
 use crate::stop::Stop;
 use net_io::{Files, ReadFail, read_all};
-use net_types::{Loaded, NoMemory, Text};
+use net_types::{Loaded, Text};
 use std::alloc::Global;
-use topo_links::{LinkFail, LinkKind, LinkLine, LinkRefusal, LinkTable, check, read_links};
+use topo_links::{LinkFail, LinkTable, check, read_links};
 
 /// The link table of a file, for these networks.
 pub(crate) fn read_table<F: Files>(
@@ -21,7 +20,6 @@ pub(crate) fn read_table<F: Files>(
     new: &[Loaded],
 ) -> Result<LinkTable, Stop>
     ensures names { IfOk result (λ table. length (table_names table) ≤ 16777216) }
-    ensures segments { IfOk result (λ table. first_segment table.lines ≡ None) }
     ensures table { IfSome (F.told files.old) (λ t. GivesTable t path.now old.now new.now result) }
     ensures cause { HasCause (F.faults files.old) (F.faults files.new) result }
     ensures same { F.told files.new ≡ F.told files.old }
@@ -76,7 +74,7 @@ fn table_of(
     }
 }
 
-// The table, where it has no segment, and nothing of it is refused for these networks.
+// The table, where nothing of it is refused for these networks.
 fn checked(
     alloc: Global,
     path: &str,
@@ -88,14 +86,6 @@ fn checked(
     ensures names { IfOk result (λ answer. length (table_names answer) ≤ 16777216) }
     ensures table { IsChecked path.now old.now new.now table result }
 {
-    if let Some(segment) = first_segment(table.lines.as_slice()) {
-        return Err(Stop::RefusedLinks {
-            path: Text::copy_of(alloc, path.as_bytes())?,
-            kind: LinkRefusal::BadWord,
-            line: segment.line,
-            word: Text::copy_of(alloc, kind_word(segment.kind).as_bytes())?,
-        });
-    }
     match check(alloc, &table, old, new) {
         Ok(()) => Ok(table),
         Err(LinkFail::NoMemory) => Err(Stop::NoMemory),
@@ -105,32 +95,5 @@ fn checked(
             line,
             word,
         }),
-    }
-}
-
-// The first line with a segment.
-fn first_segment(lines: &[LinkLine]) -> Option<&LinkLine>
-    ensures { option_copied result ≡ first_segment lines.now }
-{
-    lines.iter().find(|line| is_segment(line))
-}
-
-fn is_segment(line: &LinkLine) -> bool
-    ensures { result ≡ is_segment line.now }
-{
-    match line.kind {
-        LinkKind::P2p => true,
-        LinkKind::Lan => true,
-        LinkKind::Ingress => false,
-    }
-}
-
-fn kind_word(kind: LinkKind) -> &'static str
-    ensures { result.now ≡ kind_word kind }
-{
-    match kind {
-        LinkKind::P2p => "p2p",
-        LinkKind::Lan => "lan",
-        LinkKind::Ingress => "ingress",
     }
 }

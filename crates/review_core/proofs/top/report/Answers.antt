@@ -1,4 +1,4 @@
-use Rattle.std.proofs.Common.{Option, IfSome, map, string_bytes, subst, List, ℕ}
+use Rattle.std.proofs.Common.{Option, IfSome, map, string_bytes, subst}
 use Rattle.net_io.specs.Files.{Told}
 use Rattle.review_core.specs.Job.{Compares, word_at}
 use Rattle.review_core.proofs.top.report.Goals as goal

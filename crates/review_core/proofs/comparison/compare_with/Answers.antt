@@ -1,8 +1,0 @@
-use Rattle.review_core.specs.Steps.{GivesDevice}
-use Rattle.review_core.specs.Job.{ComparesOver}
-use Rattle.review_core.proofs.JobLemmas.{then_stop}
-use Rattle.review_core.proofs.comparison.compare_with.Goals as goal
-
-pub returns-in-Err-clause-job : goal.returns-in-Err-clause-job
-returns-in-Err-clause-job g c =
-    then_stop (λ t r. GivesDevice t c.args.new.now r) (λ t l r. ComparesOver t c.args.old l c.args.links.now r) (g.F.Files.told c.args.files.now) c.in-Err.stop c.in-Err.ensures.device
