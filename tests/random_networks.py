@@ -1,0 +1,188 @@
+#!/usr/bin/env python3
+"""Writes a small random network and a changed one: two folders of configurations and a link table.
+
+    random_networks.py FOLDER SEED
+"""
+import os
+import random
+import sys
+
+SUBNETS = ["10.0.%d.0/%d" % (k, (24, 29, 30, 31, 28)[k % 5]) for k in range(1, 9)]
+
+
+def number(text):
+    return sum(int(part) << (24 - 8 * i) for i, part in enumerate(text.split(".")))
+
+
+def dotted(value):
+    return ".".join(str(value >> shift & 255) for shift in (24, 16, 8, 0))
+
+
+def mask_of(length):
+    return dotted(2**32 - 2 ** (32 - length))
+
+
+class Maker:
+    def __init__(self, seed):
+        self.random = random.Random(seed)
+        self.addresses = []
+        self.links = []
+
+    def pick(self, *items):
+        return self.random.choice(items)
+
+    def chance(self, part):
+        return self.random.random() < part
+
+    def network(self):
+        """The devices, each a list of sections, and the link table."""
+        count = self.pick(1, 2, 2, 3, 3, 4)
+        devices = {"R%d" % (k + 1): {} for k in range(count)}
+        subnets = SUBNETS[:]
+        self.random.shuffle(subnets)
+        free = list(devices)
+        if count >= 3 and self.chance(0.5):
+            self.connect(devices, subnets, list(devices)[: self.pick(3, count)], "lan")
+        for a, b in zip(free, free[1:]):
+            if self.chance(0.8):
+                self.connect(devices, subnets, [a, b], self.pick("p2p", "p2p", "lan"))
+        for name in devices:
+            self.connect(devices, subnets, [name], "")
+        for name, interfaces in devices.items():
+            self.links.append("ingress %s %s" % (name, self.random.choice(list(interfaces))))
+        self.random.shuffle(self.links)
+        return {name: self.device(name, interfaces) for name, interfaces in devices.items()}
+
+    def connect(self, devices, subnets, names, kind):
+        if not subnets:
+            return
+        base, length = subnets.pop().split("/")
+        length = int(length)
+        size = 2 ** (32 - length)
+        hosts = self.random.sample(range(0 if size == 2 else 1, size if size == 2 else size - 1), min(len(names), 2 if size <= 4 else size - 2))
+        ends = []
+        for name, host in zip(names, hosts):
+            interface = "Ethernet%d" % len(devices[name])
+            address = dotted(number(base) + host)
+            self.addresses.append(address)
+            devices[name][interface] = [" ip address %s %s" % (address, mask_of(length))]
+            ends.append("%s %s" % (name, interface))
+        if kind and len(ends) > 1:
+            self.links.append(" ".join([kind] + ends))
+
+    def address(self):
+        return self.pick(self.random.choice(self.addresses), dotted(number("10.0.0.0") + self.random.randrange(2304)), "192.168.0.%d" % self.pick(1, 2, 9))
+
+    def prefix(self):
+        length = self.pick(0, 22, 24, 29, 30, 32, 16)
+        return dotted(number(self.address()) >> (32 - length) << (32 - length) if length else 0), mask_of(length)
+
+    def device(self, name, interfaces):
+        sections = []
+        lists = self.random.sample(["101", "A", "7"], self.pick(0, 1, 1, 2))
+        sides = self.chance(0.35)
+        for interface, lines in interfaces.items():
+            if self.chance(0.1):
+                lines.append(" ip address %s 255.255.255.255 secondary" % self.pick("192.168.0.1", "192.168.0.2", "10.9.9.9"))
+            if lists and self.chance(0.35):
+                lines.append(" ip access-group %s %s" % (self.random.choice(lists + ["NONE"]), self.pick("in", "in", "out")))
+            if sides:
+                lines.append(" ip nat %s" % self.pick("inside", "outside"))
+            if self.chance(0.07):
+                lines.append(" shutdown")
+            sections.append(["interface " + interface] + lines)
+        for _ in range(self.pick(0, 1, 2, 3)):
+            sections.append([self.route(list(interfaces))])
+        if sides:
+            for _ in range(self.pick(1, 1, 2)):
+                sections.append([self.translation()])
+        for one in lists:
+            sections += self.access_list(one)
+        return sections
+
+    def route(self, interfaces):
+        exit_ = self.pick("Null0", self.address(), self.address(), self.random.choice(interfaces), self.random.choice(interfaces) + " " + self.address())
+        return "ip route %s %s %s%s" % (*self.prefix(), exit_, self.pick("", "", " 5", " 200", " 255"))
+
+    def translation(self):
+        if self.chance(0.5):
+            return "ip nat inside source static %s %s" % (self.address(), self.pick("203.0.113.5", "203.0.113.6", self.address()))
+        return "ip nat inside source static %s %s %d %s %d" % (self.pick("tcp", "udp"), self.address(), self.pick(80, 443), self.pick("203.0.113.5", self.address()), self.pick(80, 8080))
+
+    def access_list(self, name):
+        if name == "7":
+            return [["access-list 7 %s %s" % (self.pick("permit", "deny"), self.source())] for _ in range(self.pick(1, 2))]
+        entries = [self.entry() for _ in range(self.pick(1, 2, 3))]
+        if name == "101":
+            return [["access-list 101 " + entry] for entry in entries]
+        return [["ip access-list extended A"] + [" %d %s" % (10 * k, entry) for k, entry in enumerate(entries, 1)]]
+
+    def source(self):
+        draw = self.pick("any", "host", "block", "block")
+        if draw == "any":
+            return draw
+        if draw == "host":
+            return "host " + self.address()
+        return "%s %s" % (self.address(), self.pick("0.0.0.255", "0.0.0.3", "0.0.255.0", "0.0.0.1"))
+
+    def entry(self):
+        action = self.pick("permit", "permit", "deny")
+        protocol = self.pick("ip", "tcp", "udp", "icmp", "50")
+        line = "%s %s %s %s" % (action, protocol, self.source(), self.source())
+        if protocol in ("tcp", "udp") and self.chance(0.6):
+            line += self.pick(" eq 80", " eq 80 443", " neq 80", " gt 1023", " lt 1024", " range 80 90")
+        if protocol == "tcp" and self.chance(0.3):
+            line += self.pick(" established", " syn", " match-all +syn -ack", " match-any +fin -psh")
+        if protocol == "icmp" and self.chance(0.5):
+            line += self.pick(" echo", " echo-reply", " 3 1", " unreachable")
+        return line
+
+    def changed(self, devices):
+        """A copy with one to four changes."""
+        copy = {name: [section[:] for section in sections] for name, sections in devices.items()}
+        for _ in range(self.pick(1, 2, 3, 4)):
+            self.change(copy[self.random.choice(list(copy))])
+        return copy
+
+    def change(self, sections):
+        interfaces = [section for section in sections if section[0].startswith("interface")]
+        others = [section for section in sections if not section[0].startswith("interface")]
+        kind = self.pick("shut", "drop", "route", "route", "entry", "line")
+        if kind == "drop" and others:
+            sections.remove(self.random.choice(others))
+        elif kind == "line":
+            section = self.random.choice(interfaces)
+            if len(section) > 2:
+                del section[self.random.randrange(2, len(section))]
+        elif kind == "shut":
+            self.random.choice(interfaces).append(self.pick(" shutdown", " shutdown", " no shutdown"))
+        elif kind == "entry":
+            self.random.choice(interfaces).append(" ip access-group 101 " + self.pick("in", "out"))
+            sections.append(["access-list 101 " + self.entry()])
+            sections.append(["access-list 101 permit ip any any"])
+        else:
+            sections.append([self.route([section[0].split()[1] for section in interfaces])])
+
+
+def write(folder, version, devices):
+    path = os.path.join(folder, version)
+    os.makedirs(path, exist_ok=True)
+    for old in os.listdir(path):
+        os.remove(os.path.join(path, old))
+    for name, sections in devices.items():
+        with open(os.path.join(path, name + ".cfg"), "w") as file:
+            file.write("hostname %s\n" % name + "".join(line + "\n" for section in sections for line in section))
+
+
+def main():
+    folder, seed = sys.argv[1], int(sys.argv[2])
+    maker = Maker(seed)
+    devices = maker.network()
+    write(folder, "old", devices)
+    write(folder, "new", maker.changed(devices))
+    with open(os.path.join(folder, "links"), "w") as file:
+        file.write("".join(line + "\n" for line in maker.links))
+
+
+if __name__ == "__main__":
+    main()
