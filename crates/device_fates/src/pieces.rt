@@ -5,13 +5,14 @@ ghost use Rattle.hdr_bits.specs.HeaderBits.{number, IsHeader};
 ghost use Rattle.cube_alg.specs.Pieces.{value_of};
 ghost use Rattle.device_fates.specs.declared.fate.Fate.TheVariants.{Sent};
 ghost use Rattle.device_fates.specs.Fates.{Grows, HasFate};
-ghost use Rattle.device_fates.specs.Pieces.{in_any, own_fate, choices_in, Give};
+ghost use Rattle.fib_lookup.specs.Choices.{choices_in};
+ghost use Rattle.device_fates.specs.Pieces.{in_any, own_fate, Give};
 
 use crate::cubes::{dropped_cubes, own_cubes};
 use crate::fate::Fate;
 use crate::fates::Fates;
 use cube_alg::Piece;
-use fib_lookup::{HopForm, compile_rib};
+use fib_lookup::{HopForm, prefix_choices};
 use hdr_bits::Cube;
 use net_types::{Config, Interface, List, NoMemory};
 use rib_build::build;
@@ -33,7 +34,7 @@ pub(crate) fn pieces_of(
     add_pieces(&dropped_cubes(alloc, interfaces)?, dropped, &mut pieces)?;
     let mut own = own_pieces(alloc, fates, interfaces)?;
     pieces.append(&mut own)?;
-    let parts = compile_rib(alloc, &build(alloc, config)?)?;
+    let parts = prefix_choices(alloc, &build(alloc, config)?)?;
     let mut sent = sent_pieces(alloc, fates, parts)?;
     pieces.append(&mut sent)?;
     Ok(pieces)

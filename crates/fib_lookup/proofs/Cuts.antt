@@ -1,7 +1,7 @@
 -- The parts of the cut with the choices of their groups.
-use Rattle.std.proofs.Common.{◌≡◌, ℕ, zero, suc, ◌<◌, ◌^◌, ◌/◌, List, [], ◌∷◌, length, get_or, map, Option, Some, None, sym, ap, subst, ◌∙◌, arith}
+use Rattle.std.proofs.Common.{◌≡◌, ℕ, zero, suc, ◌<◌, ◌^◌, ◌/◌, false, cond, List, [], ◌∷◌, length, get_or, map, Option, Some, None, refl, sym, ap, subst, ◌∙◌, arith}
 use Rattle.std.specs.Prelude.{All, AllPairs, Any}
-use Rattle.std.specs.Option.{unwrap_or}
+use Rattle.std.specs.Option.{option_map, unwrap_or}
 use Rattle.std.specs.List.Sorted.{IsStrictlySortedBy}
 use Rattle.std.proofs.lemmas.List.Kept.{AllPairs-cons}
 use Rattle.std.proofs.lemmas.List.Elements.{All-nil, All-map, All-weaker, All-head, All-tail}
@@ -21,7 +21,8 @@ use Rattle.fib_lookup.specs.declared.form.HopForm.{HopForm}
 use Rattle.fib_lookup.specs.declared.form.HopForm.TheVariants.{Discard}
 use Rattle.fib_lookup.specs.declared.group.Group.{Group}
 use Rattle.fib_lookup.specs.Forms.{form_cmp, hop_of}
-use Rattle.fib_lookup.specs.Groups.{number_of, forms_at, row, AreChoices}
+use Rattle.fib_lookup.specs.Choices.{choices_in, AreChoicesFor}
+use Rattle.fib_lookup.specs.Groups.{number_of, forms_at, first_forms, row, AreChoices}
 use Rattle.fib_lookup.proofs.Numbers.{forms_first}
 
 module _ {X Y : Type 0} (f : X → Y) where
@@ -77,3 +78,20 @@ all_agree (Some x) b n = absurd (true≢false n)
 
 pub in_all : (c : Cube) → ((k : ℕ) → k < 112 → IsStar c k) → (h : ℕ) → is_in c h ≡ true
 in_all c f h = test_in c h (λ k l. all_agree (place c k) (bit h k) (f k l))
+
+-- ---- parts that are tried in order
+first_row : (gs : List Group) (pieces : List Piece) (h : ℕ) → choices_in (map (row gs) pieces) h ≡ option_map (forms_at gs) (value_of pieces h)
+first_row gs [] h = refl
+first_row gs (p ∷ ps) h = elim (is_in p.cube h) as (λ t. cond t (Some (forms_at gs p.value)) (choices_in (map (row gs) ps) h) ≡ option_map (forms_at gs) (cond t (Some p.value) (value_of ps h))) [
+  | true ↦ refl
+  | false ↦ first_row gs ps h
+]
+
+pub rows_choices : (rib : Rib) (gs : List Group) (pieces : List Piece) (rows : List (Cube × List HopForm)) → rows ≡ map (row gs) pieces → AreChoices rib gs → ((h : ℕ) → h < 2 ^ 112 → value_of pieces h ≡ Some (unwrap_or (number_of gs (h / 2 ^ 80)) (length gs))) → (h : ℕ) → h < 2 ^ 112 → AreChoicesFor rib (h / 2 ^ 80) (choices_in rows h)
+rows_choices rib gs pieces rows e c n h b =
+    let a = h / 2 ^ 80 in
+    record {
+      forms = first_forms gs a;
+      there = ap (λ rs. choices_in rs h) e ∙ (first_row gs pieces h ∙ (ap (option_map (forms_at gs)) (n h b) ∙ ap Some (forms_first gs a)));
+      exact = c.choices a;
+    }

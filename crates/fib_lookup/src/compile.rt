@@ -5,6 +5,7 @@ ghost use Rattle.hdr_bits.specs.CubeBits.{IsIn, is_in};
 ghost use Rattle.net_types.specs.Order.{hop_cmp, in_order};
 ghost use Rattle.net_types.specs.Routes.{holds, hops};
 ghost use Rattle.cube_alg.specs.Pieces.{value_of};
+ghost use Rattle.fib_lookup.specs.Choices.{choices_in, AreChoicesFor};
 ghost use Rattle.fib_lookup.specs.Forms.{form_cmp, hop_of};
 ghost use Rattle.fib_lookup.specs.Groups.{number_of, forms_at, row, AreChoices};
 
@@ -35,6 +36,22 @@ pub fn compile_rib(alloc: Global, rib: &Rib) -> Result<Vec<(Cube, List<HopForm>)
     let pieces = pieces_of(alloc, groups.as_slice())?;
     let parts = first_cut(alloc, pieces.as_slice())?;
     let rows = rows_of(alloc, groups.as_slice(), parts.as_slice())?;
+    Ok(rows)
+}
+
+/// The choices of every destination by its prefixes, in the order in which these are tried: a header has the choices of
+/// the first cube that holds it, and there is one. There are as many cubes as prefixes, and one more, of all headers.
+///
+/// # Errors
+///
+/// There was no memory, or there are 2 to the 32 prefixes or more.
+pub fn prefix_choices(alloc: Global, rib: &Rib) -> Result<Vec<(Cube, List<HopForm>)>, NoMemory>
+    ensures exact { IfOk result (λ r. (h : ℕ) → h < 2 ^ 112 → AreChoicesFor rib.now (h / 2 ^ 80) (choices_in r.items h)) }
+    ensures sorted { IfOk result (λ r. All (λ p. IsStrictlySortedBy form_cmp p.1) r.items) }
+{
+    let groups = all_groups(alloc, rib)?;
+    let pieces = pieces_of(alloc, groups.as_slice())?;
+    let rows = rows_of(alloc, groups.as_slice(), pieces.as_slice())?;
     Ok(rows)
 }
 

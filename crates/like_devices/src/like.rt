@@ -1,4 +1,4 @@
-ghost use Rattle.std.specs.Prelude.{◌≡◌, ◌==◌, ℕ, true, All, Contains, IfOk, find};
+ghost use Rattle.std.specs.Prelude.{◌≡◌, ◌==◌, ℕ, true, All, Contains, IfOk, find, slice_get};
 ghost use Rattle.std.specs.Option.{option_copied};
 ghost use Rattle.plain_rules.specs.Borrowed.{world_of};
 ghost use Rattle.link_sends.specs.Sending.{SendAlike};
@@ -40,10 +40,10 @@ fn is_like(old: WorldRef, new: WorldRef, before: &Wiring, after: &Wiring, name: 
     requires after { after.now ≡ world_of new }
     ensures { result ≡ true → IsLike (world_of old.entry) (world_of new.entry) name }
 {
-    let Some(a) = device_named(old.network.devices.as_slice(), name) else {
+    let Some(a) = device_named(before, old.network.devices.as_slice(), name) else {
         return false;
     };
-    let Some(b) = device_named(new.network.devices.as_slice(), name) else {
+    let Some(b) = device_named(after, new.network.devices.as_slice(), name) else {
         return false;
     };
     if !same_device(a, b) {
@@ -52,11 +52,21 @@ fn is_like(old: WorldRef, new: WorldRef, before: &Wiring, after: &Wiring, name: 
     send_alike(before, after, a.name, a.numbers.as_slice())
 }
 
-// The first device of that name.
-fn device_named(devices: &[NetDevice], name: u32) -> Option<&NetDevice>
+// The first device of that name. The wiring is that of the devices.
+fn device_named<'a>(wiring: &Wiring, devices: &'a [NetDevice], name: u32) -> Option<&'a NetDevice>
+    requires { devices.now ≡ wiring.now.network.devices }
     ensures { option_copied result ≡ find (λ d. d.name == name) devices.now }
 {
-    devices.iter().find(|d| d.name == name)
+    let Some(position) = wiring.device_position(name) else {
+        return None;
+    };
+    device_at(devices, position)
+}
+
+fn device_at(devices: &[NetDevice], position: usize) -> Option<&NetDevice>
+    ensures { option_copied result ≡ slice_get devices.now position }
+{
+    devices.get(position)
 }
 
 // Whether the device's interfaces with these numbers are known to send alike in both worlds.

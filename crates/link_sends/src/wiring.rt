@@ -1,4 +1,4 @@
-ghost use Rattle.std.specs.Prelude.{◌≡◌, IfOk, IsTrue, slice_get, option_and_then};
+ghost use Rattle.std.specs.Prelude.{◌≡◌, ◌==◌, IfOk, IsTrue, position, slice_get, option_and_then};
 ghost use Rattle.std.specs.Option.{option_copied};
 ghost use Rattle.indexmap.specs.IndexMap.{get};
 ghost use Rattle.net_types.specs.World.{same_place};
@@ -23,7 +23,7 @@ use std::marker::Model;
 /// The links of a world, indexed: it is made in near linear time, and a packet is sent without a scan.
 #[derive(Drop)]
 pub struct Wiring<'a> {
-    world: WorldRef<'a>,
+    ports: Ports<'a>,
     numbers: IndexMap<Place, usize>,
     wires: Vec<Wire>,
     diagrams: Diagrams,
@@ -32,14 +32,13 @@ pub struct Wiring<'a> {
 impl<'a> Model for Wiring<'a> {
     ghost use Rattle.indexmap.specs.IndexMap.{get};
     ghost use Rattle.net_types.specs.World.{World, same_place};
-    ghost use Rattle.plain_rules.specs.Borrowed.{world_of};
     ghost use Rattle.link_sends.specs.Wired.{IsWired};
 
     ghost Value = { World };
 
-    ghost view = { λ w. world_of w.world };
+    ghost view = { λ w. w.ports };
 
-    ghost invariant = { λ w. IsWired (world_of w.world) w.diagrams (get same_place w.numbers) w.wires.items };
+    ghost invariant = { λ w. IsWired w.ports w.diagrams (get same_place w.numbers) w.wires.items };
 }
 
 impl<'a> Wiring<'a> {
@@ -56,7 +55,7 @@ impl<'a> Wiring<'a> {
         let mut diagrams = Diagrams::new(alloc)?;
         let wires = wires(alloc, &ports, segments, &mut diagrams)?;
         Ok(Wiring {
-            world,
+            ports,
             numbers,
             wires,
             diagrams,
@@ -87,6 +86,13 @@ impl<'a> Wiring<'a> {
         ensures { IsTrue result → SendAlike self.now other.now interface }
     {
         are_alike(self.wire(interface), other.wire(interface), interface)
+    }
+
+    /// The position of the first device of this name. It takes no memory and no scan.
+    pub fn device_position(&self, name: u32) -> Option<usize>
+        ensures { result ≡ position (λ d. d.name == name) self.now.network.devices }
+    {
+        self.ports.device_position(name)
     }
 
     // What is kept of the segment of a place.

@@ -22,6 +22,19 @@ pub record IsNetworkForm (fs : Functions) (fates : List Fate) (n : NetworkForm) 
   pub wiring : n.wiring ≡ world_of n.world
   pub devices : AreDevices fs fates n.world.network.now.devices n.devices.items
 
+-- this is what the compiled network has of a device that is equal to this one
+pub record IsFormIn (n : NetworkForm) (d : NetDevice) (f : DeviceForm) : Type 0 where
+  pub position : ℕ
+  pub device : slice_get n.world.network.now.devices position ≡ Some d
+  pub form : slice_get n.devices.items position ≡ Some f
+
+-- the second form has the functions of the first
+pub record IsCopy (f g : DeviceForm) : Type 0 where
+  pub ports : g.ports.items ≡ f.ports.items
+  pub outside : g.outside ≡ f.outside
+  pub inside : g.inside ≡ f.inside
+  pub fates : g.fates ≡ f.fates
+
 -- the devices with these names do the same in both networks
 abbrev pub AreLike : NetworkForm → NetworkForm → List ℕ → Type 0
 AreLike old new names = All (IsLike (world_of old.world) (world_of new.world)) names

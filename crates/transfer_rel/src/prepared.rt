@@ -56,8 +56,8 @@ impl<'a> Prepared<'a> {
             diagrams: Diagrams::new(alloc)?,
             fates: Fates::new(alloc),
         };
-        let before = compile_network(alloc, &mut tables, old)?;
-        let after = compile_network(alloc, &mut tables, new)?;
+        let before = compile_network(alloc, &mut tables, old, None)?;
+        let after = compile_network(alloc, &mut tables, new, Some(&before))?;
         let like = like_devices(alloc, old, new, &before.wiring, &after.wiring)?;
         Ok(Prepared {
             tables,

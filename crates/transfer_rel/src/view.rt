@@ -23,12 +23,13 @@ ghost use Rattle.transfer_rel.specs.Networks.{IsPlaced, AreShaped};
 
 /// What stands at a place.
 pub(crate) fn view_at<'a>(network: &'a NetworkForm<'a>, place: Place) -> Option<View<'a>>
-    requires { AreShaped network.now.world.network.now.devices network.now.devices.items }
+    requires shaped { AreShaped network.now.world.network.now.devices network.now.devices.items }
+    requires wiring { network.now.wiring ≡ world_of network.now.world }
     ensures port { option_map (λ v. port_of v.port) result ≡ port_at (world_of network.now.world) place }
     ensures placed { IfSome result (λ v. IsPlaced network.now.world.network.now.devices network.now.devices.items (port_of v.port) v.device.now v.form) }
 {
     let devices = network.world.network.devices.as_slice();
-    let Some(n) = device_position(devices, place.device) else {
+    let Some(n) = network.wiring.device_position(place.device) else {
         return None;
     };
     let Some(device) = device_at(devices, n) else {
@@ -40,22 +41,16 @@ pub(crate) fn view_at<'a>(network: &'a NetworkForm<'a>, place: Place) -> Option<
     view_numbered(device, form, place.interface)
 }
 
-fn device_at<'a>(devices: &'a [NetDevice], n: usize) -> Option<&'a NetDevice>
+pub(crate) fn device_at<'a>(devices: &'a [NetDevice], n: usize) -> Option<&'a NetDevice>
     ensures { option_copied result ≡ slice_get devices.now n }
 {
     devices.get(n)
 }
 
-fn form_at<'a>(forms: &'a [DeviceForm], n: usize) -> Option<&'a DeviceForm>
+pub(crate) fn form_at<'a>(forms: &'a [DeviceForm], n: usize) -> Option<&'a DeviceForm>
     ensures { option_copied result ≡ slice_get forms.now n }
 {
     forms.get(n)
-}
-
-fn device_position(devices: &[NetDevice], name: u32) -> Option<usize>
-    ensures { result ≡ position (λ d. d.name == name) devices.now }
-{
-    devices.iter().position(|d| d.name == name)
 }
 
 // The interface at the first position that has this number.

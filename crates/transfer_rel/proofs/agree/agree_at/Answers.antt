@@ -5,12 +5,12 @@ use Rattle.transfer_rel.proofs.AnswerLemmas.{placed_device, placed_port}
 use Rattle.transfer_rel.proofs.FormLemmas.{shaped}
 use Rattle.transfer_rel.proofs.agree.agree_at.Goals as goal
 
-pub view_at-requires : goal.view_at-requires
-view_at-requires c =
+pub view_at-requires-clause-shaped : goal.view_at-requires-clause-shaped
+view_at-requires-clause-shaped c =
     shaped c.args.tables.now.diagrams c.args.tables.now.fates c.args.old.now.world.network.now.devices c.args.old.now.devices.items c.requires.old.devices
 
-pub view_at-requires-2 : goal.view_at-requires-2
-view_at-requires-2 c =
+pub view_at-requires-2-clause-shaped : goal.view_at-requires-2-clause-shaped
+view_at-requires-2-clause-shaped c =
     shaped c.args.tables.now.diagrams c.args.tables.now.fates c.args.new.now.world.network.now.devices c.args.new.now.devices.items c.requires.new.devices
 
 pub agree_in-requires-clause-old_device : goal.agree_in-requires-clause-old_device
