@@ -12,7 +12,7 @@ pub fn append_interface(out: &mut Vec<u8>, interface: &Interface) -> Result<(), 
     ensures { OnOk result (out.new.items ≡ out.old.items ++ flat_map spell (interface_rows interface.now)) }
 {
     append_interface_line(out, interface)?;
-    append_first(out, interface.primary)?;
+    append_primary(out, interface.primary)?;
     append_secondaries(out, interface.secondary.as_slice())?;
     append_shut(out, interface.shut)?;
     append_input(out, &interface.input)?;
@@ -29,12 +29,12 @@ fn append_interface_line(out: &mut Vec<u8>, interface: &Interface) -> Result<(),
     append(out, b"\n")
 }
 
-fn append_first(out: &mut Vec<u8>, subnet: Option<Subnet>) -> Result<(), NoMemory>
+fn append_primary(out: &mut Vec<u8>, subnet: Option<Subnet>) -> Result<(), NoMemory>
     ensures { OnOk result (out.new.items ≡ out.old.items ++ flat_map spell (map primary_row (option_to_list subnet))) }
 {
     match subnet {
         None => Ok(()),
-        Some(subnet) => append_primary(out, subnet),
+        Some(subnet) => append_primary_line(out, subnet),
     }
 }
 
@@ -42,12 +42,12 @@ fn append_secondaries(out: &mut Vec<u8>, subnets: &[Subnet]) -> Result<(), NoMem
     ensures { OnOk result (out.new.items ≡ out.old.items ++ flat_map spell (map secondary_row subnets.now)) }
 {
     for subnet in subnets {
-        append_secondary(out, *subnet)?;
+        append_secondary_line(out, *subnet)?;
     }
     Ok(())
 }
 
-fn append_primary(out: &mut Vec<u8>, subnet: Subnet) -> Result<(), NoMemory>
+fn append_primary_line(out: &mut Vec<u8>, subnet: Subnet) -> Result<(), NoMemory>
     ensures { OnOk result (out.new.items ≡ out.old.items ++ spell (primary_row subnet)) }
 {
     append(out, b" ip address")?;
@@ -55,7 +55,7 @@ fn append_primary(out: &mut Vec<u8>, subnet: Subnet) -> Result<(), NoMemory>
     append(out, b"\n")
 }
 
-fn append_secondary(out: &mut Vec<u8>, subnet: Subnet) -> Result<(), NoMemory>
+fn append_secondary_line(out: &mut Vec<u8>, subnet: Subnet) -> Result<(), NoMemory>
     ensures { OnOk result (out.new.items ≡ out.old.items ++ spell (secondary_row subnet)) }
 {
     append(out, b" ip address")?;

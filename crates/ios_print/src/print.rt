@@ -12,7 +12,7 @@ use crate::text::{append, append_word};
 use net_types::{AccessList, Config, Interface, NatRule, NoMemory, Route, Text};
 use std::alloc::Global;
 
-/// The text of a configuration: a line for each thing that it says.
+/// The text of a configuration: its hostname, interfaces, routes, rules of address translation and access lists.
 ///
 /// The configuration is one that some text is read as. What is written is read as this configuration, with no line
 /// passed over.

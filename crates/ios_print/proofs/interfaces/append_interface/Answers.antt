@@ -17,7 +17,7 @@ returns c =
     let from_shut = shut_rows i.shut ++ from_input in
     let from_others = others ++ from_shut in
     text_after _ _ _ _ (spell (interface_row i)) (flat_map spell (first ++ from_others)) c.in_ok-append_interface_line.ensures
-    (rows_after _ _ _ _ first from_others c.in_ok-append_first.ensures
+    (rows_after _ _ _ _ first from_others c.in_ok-append_primary.ensures
     (rows_after _ _ _ _ others from_shut (rw c.as_slice.ensures at c.in_ok-append_secondaries.ensures)
     (rows_after _ _ _ _ (shut_rows i.shut) from_input c.in_ok-append_shut.ensures
     (rows_after _ _ _ _ input from_output c.in_ok-append_input.ensures
