@@ -19,7 +19,7 @@ pub(crate) fn same_access_lists(a: &[AccessList], b: &[AccessList]) -> bool
     true
 }
 
-fn same_access_list(a: &AccessList, b: &AccessList) -> bool
+pub(crate) fn same_access_list(a: &AccessList, b: &AccessList) -> bool
     ensures { result ≡ true → a.now ≡ b.now }
 {
     same_text(&a.name, &b.name)

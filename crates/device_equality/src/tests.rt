@@ -1,6 +1,6 @@
 //! Devices of which no two are equal: each is found equal to its copy, and to no other.
-use crate::same_device;
 use crate::shapes::{Face, More, Ports, Shape, Test, Way, device, plain, plain_face, plain_test};
+use crate::{same_beyond_input, same_device};
 use net_types::{
     FlagTest, IcmpTest, List, Masked, NatKind, NatRule, NetDevice, NoMemory, Side, Subnet,
 };
@@ -264,5 +264,51 @@ fn equal_devices_are_found_equal_and_no_others(rt: HostRuntime) -> Result<(), Fa
     add_others(&mut shapes)?;
     assert_eq!(rt; shapes.len(), 59);
     assert_eq!(rt; wrong(alloc, &shapes)?, None);
+    Ok(())
+}
+
+fn are_alike_beyond_input(alloc: Global, a: &Shape, b: &Shape) -> Result<bool, NoMemory> {
+    let a = device(alloc, a)?;
+    let b = device(alloc, b)?;
+    Ok(same_beyond_input(&a, &b))
+}
+
+#[test]
+fn lists_that_no_interface_has_for_output_may_differ(rt: HostRuntime) -> Result<(), Fail> {
+    let plain = plain();
+    let test = Test {
+        permit: false,
+        ..plain.test
+    };
+    let face = Face {
+        output: Some("IN"),
+        ..plain.face
+    };
+    let changed = Shape { test, ..plain };
+    let longer = Shape {
+        more: More::Entries,
+        ..plain
+    };
+    let out = Shape { face, ..plain };
+    let changed_out = Shape { face, ..changed };
+    let renamed = Shape {
+        list: "OUT",
+        ..plain
+    };
+    let farther = Shape {
+        distance: 2,
+        ..plain
+    };
+    let pairs = [
+        (plain, changed, true),
+        (plain, longer, true),
+        (out, out, true),
+        (out, changed_out, false),
+        (plain, renamed, false),
+        (plain, farther, false),
+    ];
+    for (a, b, alike) in &pairs {
+        assert_eq!(rt; are_alike_beyond_input(rt.alloc(), a, b)?, *alike);
+    }
     Ok(())
 }

@@ -18,25 +18,25 @@ use Rattle.net_types.specs.World.{World, Port, port_in, port_numbered, port_name
 use Rattle.link_sends.specs.Sending.{SendAlike}
 use Rattle.like_devices.specs.Like.{IsLike}
 
-pub among : (xs : List ℕ) (i n : ℕ) → slice_get xs i ≡ Some n → Contains xs n
+pub among : {A : Type 0} (xs : List A) (i : ℕ) (n : A) → slice_get xs i ≡ Some n → Contains xs n
 among xs i n e = subst (Contains xs) (get_or_from_slice_get xs i n n e) (Contains-get_or xs i n (slice_get_within xs i n e))
 
 -- the place of an interface of the device has one of the device's numbers
-record IsPlaceOf (d : NetDevice) (p : Place) : Type 0 where
-  number : ℕ
-  among : Contains d.numbers number
-  place : p ≡ record { device = d.name; interface = number }
+pub record IsPlaceOf (d : NetDevice) (p : Place) : Type 0 where
+  pub number : ℕ
+  pub among : Contains d.numbers number
+  pub place : p ≡ record { device = d.name; interface = number }
 
 placed : (d : NetDevice) (i : ℕ) (f : Option Interface) (m : Option ℕ) (out : Port) → slice_get d.numbers i ≡ m → Some out ≡ option_and_then (λ g. option_map (λ n. record { place = record { device = d.name; interface = n }; device = d; interface = g }) m) f → (out.device ≡ d) × IsPlaceOf d out.place
 placed d i None m out s e = absurd cc
 placed d i (Some g) None out s e = absurd cc
 placed d i (Some g) (Some n) out s e = (cc, record { number = n; among = among d.numbers i n s; place = cc })
 
-placed_in : (d : NetDevice) (q : Option ℕ) (out : Port) → Some out ≡ option_and_then (port_in d) q → (out.device ≡ d) × IsPlaceOf d out.place
+pub placed_in : (d : NetDevice) (q : Option ℕ) (out : Port) → Some out ≡ option_and_then (port_in d) q → (out.device ≡ d) × IsPlaceOf d out.place
 placed_in d None out e = absurd cc
 placed_in d (Some i) out e = placed d i (slice_get d.config.interfaces i) (slice_get d.numbers i) out refl e
 
-same_map : {A B : Type 0} (f g : A → B) (xs : List A) → ((x : A) → f x ≡ g x) → map f xs ≡ map g xs
+pub same_map : {A B : Type 0} (f g : A → B) (xs : List A) → ((x : A) → f x ≡ g x) → map f xs ≡ map g xs
 same_map f g [] e = refl
 same_map f g (x ∷ xs) e = ap (λ y. y ∷ map f xs) (e x) ∙ ap (λ ys. g x ∷ ys) (same_map f g xs e)
 

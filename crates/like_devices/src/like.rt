@@ -53,7 +53,7 @@ fn is_like(old: WorldRef, new: WorldRef, before: &Wiring, after: &Wiring, name: 
 }
 
 // The first device of that name. The wiring is that of the devices.
-fn device_named<'a>(wiring: &Wiring, devices: &'a [NetDevice], name: u32) -> Option<&'a NetDevice>
+pub(crate) fn device_named<'a>(wiring: &Wiring, devices: &'a [NetDevice], name: u32) -> Option<&'a NetDevice>
     requires { devices.now ≡ wiring.now.network.devices }
     ensures { option_copied result ≡ find (λ d. d.name == name) devices.now }
 {
@@ -70,7 +70,7 @@ fn device_at(devices: &[NetDevice], position: usize) -> Option<&NetDevice>
 }
 
 // Whether the device's interfaces with these numbers are known to send alike in both worlds.
-fn send_alike(before: &Wiring, after: &Wiring, device: u32, numbers: &[u32]) -> bool
+pub(crate) fn send_alike(before: &Wiring, after: &Wiring, device: u32, numbers: &[u32]) -> bool
     ensures { result ≡ true → (n : ℕ) → Contains numbers.now n → SendAlike before.now after.now (record { device = device; interface = n }) }
 {
     for number in numbers {

@@ -11,7 +11,7 @@ use cube_diagram::Diagrams;
 use device_fates::Fates;
 use hdr_bits::Cube;
 use indexmap::IndexSet;
-use like_devices::{has_name, like_devices};
+use like_devices::{alike_beyond_input, has_name, like_devices};
 use net_types::{NoMemory, Place};
 use plain_rules::WorldRef;
 use std::alloc::Global;
@@ -25,6 +25,8 @@ pub struct Prepared<'a> {
     new: NetworkForm<'a>,
     /// The names of devices that are known to do the same in both.
     like: IndexSet<u32>,
+    /// The names of devices that are known to do the same in both with whatever their input lists let in.
+    beyond_input: IndexSet<u32>,
 }
 
 impl<'a> Model for Prepared<'a> {
@@ -36,7 +38,7 @@ impl<'a> Model for Prepared<'a> {
 
     ghost view = { λ p. record { old = world_of p.old.world; new = world_of p.new.world } };
 
-    ghost invariant = { λ p. ArePrepared p.tables p.old p.new p.like.keys };
+    ghost invariant = { λ p. ArePrepared p.tables p.old p.new p.like.keys p.beyond_input.keys };
 }
 
 impl<'a> Prepared<'a> {
@@ -59,11 +61,13 @@ impl<'a> Prepared<'a> {
         let before = compile_network(alloc, &mut tables, old, None)?;
         let after = compile_network(alloc, &mut tables, new, Some(&before))?;
         let like = like_devices(alloc, old, new, &before.wiring, &after.wiring)?;
+        let beyond_input = alike_beyond_input(alloc, old, new, &before.wiring, &after.wiring)?;
         Ok(Prepared {
             tables,
             old: before,
             new: after,
             like,
+            beyond_input,
         })
     }
 
@@ -96,7 +100,16 @@ impl<'a> Prepared<'a> {
         if has_name(&self.like, place.device) {
             return Ok(Agreement::Same);
         }
-        let agreement = agree_at(alloc, &self.tables, &self.old, &self.new, place, cube)?;
+        let beyond_input = has_name(&self.beyond_input, place.device);
+        let agreement = agree_at(
+            alloc,
+            &self.tables,
+            &self.old,
+            &self.new,
+            place,
+            cube,
+            beyond_input,
+        )?;
         Ok(agreement)
     }
 
