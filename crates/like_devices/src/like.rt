@@ -53,7 +53,11 @@ fn is_like(old: WorldRef, new: WorldRef, before: &Wiring, after: &Wiring, name: 
 }
 
 // The first device of that name. The wiring is that of the devices.
-pub(crate) fn device_named<'a>(wiring: &Wiring, devices: &'a [NetDevice], name: u32) -> Option<&'a NetDevice>
+pub(crate) fn device_named<'a>(
+    wiring: &Wiring,
+    devices: &'a [NetDevice],
+    name: u32,
+) -> Option<&'a NetDevice>
     requires { devices.now ≡ wiring.now.network.devices }
     ensures { option_copied result ≡ find (λ d. d.name == name) devices.now }
 {
