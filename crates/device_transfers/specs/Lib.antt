@@ -1,0 +1,2 @@
+pub mod MoveOrder
+pub mod Transfers
