@@ -34,9 +34,21 @@ pub fn compare(
         links,
     };
     let prepared = Prepared::of(alloc, before, after)?;
-    let reach = Reach::of(alloc, &prepared, links.ingress.as_slice())?;
-    let sections = sections_at(alloc, &prepared, &reach, ttl, links.ingress.as_slice())?;
-    Ok(sections)
+    sections_of(alloc, &prepared, ttl, links.ingress.as_slice())
+}
+
+// The sections of the ingresses.
+fn sections_of<'a>(
+    alloc: Global,
+    prepared: &'a Prepared<'a>,
+    ttl: u8,
+    ingress: &[Place],
+) -> Result<Vec<Section>, NoMemory>
+    requires ttl { 1 ≤ ttl }
+    ensures { IfOk result (λ sections. IsReport ingress.now prepared.now.old prepared.now.new ttl sections.items) }
+{
+    let reach = Reach::of(alloc, prepared, ingress)?;
+    sections_at(alloc, prepared, &reach, ttl, ingress)
 }
 
 // The sections of the ingresses, in their order.
