@@ -38,7 +38,7 @@ const FIXED: [u128; 6] = [
 
 // So many headers are tried at a place at most. Where there are more, those that are tried are spread over all by steps
 // of a prime, which is greater than the count of edges in any field.
-const MOST: usize = 20_000;
+const MOST: usize = 1_000_000;
 
 const STEP: usize = 7_919;
 
