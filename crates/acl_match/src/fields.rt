@@ -24,7 +24,7 @@ pub(crate) fn block_cube(shift: u32, block: &Block) -> Cube
 /// The headers whose field of this width, above the lowest `shift` bits, agrees with the value where the mask
 /// has ones. The mask may have holes.
 pub(crate) fn field_cube(shift: u32, width: u32, mask: u32, value: u32) -> Cube
-    requires place { shift + width ≤ 112 }
+    requires within { shift + width ≤ 112 }
     requires width { width ≤ 32 }
     requires mask { mask < 2 ^ width }
     ensures { (h : ℕ) → is_in result h ≡ (bit_and (field shift width h) mask == bit_and value mask) }
@@ -45,7 +45,7 @@ pub(crate) fn one(alloc: Global, cube: Cube) -> Result<Vec<Cube>, NoMemory>
     Ok(cubes)
 }
 
-/// The headers that aren't in the cube: a cube for each place that it fixes.
+/// The headers that aren't in the cube: a cube for each bit that it fixes.
 pub(crate) fn outside(alloc: Global, cube: &Cube) -> Result<Vec<Cube>, NoMemory>
     ensures { IfOk result (λ r. (h : ℕ) → any_in r.items h ≡ not (is_in cube.now h)) }
 {

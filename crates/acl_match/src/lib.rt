@@ -8,12 +8,8 @@ mod entry;
 mod fields;
 mod list;
 mod ports;
-mod verdict;
 
 pub use diagram::add_list;
 pub use entry::entry_cubes;
+pub use header_rules::first_match;
 pub use list::compile_list;
-pub use verdict::first_match;
-
-#[cfg(test)]
-mod tests;

@@ -4,8 +4,8 @@ use Rattle.std.proofs.lemmas.Bool.{eqb-true, eq-eqb}
 use Rattle.std.proofs.lemmas.List.Elements.{All-nil, All-cons, All-head, All-tail, Contains-append_right}
 use Rattle.std.proofs.lemmas.List.Kept.{AllPairs-cons}
 use Rattle.hdr_bits.specs.declared.cube.Cube.{Cube}
-use Rattle.hdr_bits.specs.Bits.{bit}
-use Rattle.hdr_bits.specs.CubeBits.{place, IsIn, AgreesBefore, IsStar, is_in}
+use Rattle.hdr_bits.specs.Bits.{bit_of}
+use Rattle.hdr_bits.specs.CubeBits.{digit_at, IsIn, AgreesBefore, IsStar, is_in}
 use Rattle.hdr_bits.specs.Rows.{IsRow, ComesBefore, AreRows}
 use Rattle.hdr_bits.proofs.Masks.{AgreesFrom, in_from_mask, mask_from_in, agrees_from_fixed, fixed_at}
 use Rattle.hdr_bits.proofs.CubeLemmas.{same_cube}
@@ -16,16 +16,16 @@ use Rattle.canon_rows.proofs.Canonical.{IsRowAt, Unchanged}
 use Rattle.canon_rows.proofs.RowLists.{IsRowOf, HasRow, rows_each, rows_every}
 use Rattle.canon_rows.proofs.RowOrder.{Before, Ordered, rows_ordered}
 
--- ---- places and positions
-star_from_zero : (c : Cube) (k : ℕ) → bit c.fixed k ≡ 0 → IsStar c k
+-- ---- bits and positions
+star_from_zero : (c : Cube) (k : ℕ) → bit_of c.fixed k ≡ 0 → IsStar c k
 star_from_zero c k e = rw e refl
 
 cond_none : (t : Bool) (b : ℕ) → IsNone (cond t None (Some b)) → t ≡ true
 cond_none true b h = refl
 cond_none false b h = absurd cc
 
-zero_from_star : (c : Cube) (k : ℕ) → IsStar c k → bit c.fixed k ≡ 0
-zero_from_star c k h = eqb-true (bit c.fixed k) 0 (cond_none (bit c.fixed k == 0) (bit c.bits k) h)
+zero_from_star : (c : Cube) (k : ℕ) → IsStar c k → bit_of c.fixed k ≡ 0
+zero_from_star c k h = eqb-true (bit_of c.fixed k) 0 (cond_none (bit_of c.fixed k == 0) (bit_of c.bits k) h)
 
 pub in_from_agrees : (c : Cube) (n : ℕ) → AgreesFrom 112 0 c.fixed c.bits n → IsIn c n
 in_from_agrees c n a k l = agrees_from_fixed c n k (a (111 - k) (omega arith) (omega arith))
@@ -39,7 +39,7 @@ before_from_agrees c k n q a i l = agrees_from_fixed c n i (a (111 - i) (omega a
 agrees_from_before : (c : Cube) (k n : ℕ) → k < 112 → AgreesBefore c k n → AgreesFrom 112 (suc (111 - k)) c.fixed c.bits n
 agrees_from_before c k n q a i p l = fixed_at c n i l (a (111 - i) (omega arith))
 
--- a fact of the place counted from the other end
+-- a fact of the bit counted from the other end
 by_position : (P : ℕ → Type 0) → ((k : ℕ) → k < 112 → P (111 - k)) → (j : ℕ) → j < 112 → P j
 by_position P h j l =
     let e : 111 - (111 - j) ≡ j = omega arith in subst P e (h (111 - j) (omega arith))
@@ -75,11 +75,11 @@ cubes_has c (p ∷ ps) h =
       | inr k ↦ Contains-append_right (p.cube ∷ []) (map (λ q. q.cube) ps) c (cubes_has c ps k)
     ]
 
-same_place : (c d : Cube) (k : ℕ) → bit c.fixed k ≡ bit d.fixed k → bit c.bits k ≡ bit d.bits k → place c k ≡ place d k
-same_place c d k e g = rw (e, g)
+same_digit_at : (c d : Cube) (k : ℕ) → bit_of c.fixed k ≡ bit_of d.fixed k → bit_of c.bits k ≡ bit_of d.bits k → digit_at c k ≡ digit_at d k
+same_digit_at c d k e g = rw (e, g)
 
-digit_place : (c : Cube) (k b : ℕ) → bit c.fixed k ≡ 1 → bit c.bits k ≡ b → place c k ≡ Some b
-digit_place c k b e g = rw (e, g)
+digit_there : (c : Cube) (k b : ℕ) → bit_of c.fixed k ≡ 1 → bit_of c.bits k ≡ b → digit_at c k ≡ Some b
+digit_there c k b e g = rw (e, g)
 
 cube_before : (p q : Piece) → Before 112 (plain p) (plain q) → ComesBefore p.cube q.cube
 cube_before p q h =
@@ -89,9 +89,9 @@ cube_before p q h =
     record {
       first = 111 - j;
       within = omega arith;
-      same = λ i k. same_place p.cube q.cube i (h.same_fixed (111 - i) (omega arith) (omega arith)) (h.same_bits (111 - i) (omega arith) (omega arith));
-      zero_there = digit_place p.cube (111 - j) 0 (rw e h.digits.0) (rw e h.zero_one.0);
-      one_there = digit_place q.cube (111 - j) 1 (rw e h.digits.1) (rw e h.zero_one.1);
+      same = λ i k. same_digit_at p.cube q.cube i (h.same_fixed (111 - i) (omega arith) (omega arith)) (h.same_bits (111 - i) (omega arith) (omega arith));
+      zero_there = digit_there p.cube (111 - j) 0 (rw e h.digits.0) (rw e h.zero_one.0);
+      one_there = digit_there q.cube (111 - j) 1 (rw e h.digits.1) (rw e h.zero_one.1);
     }
 
 cubes_before : (p : Piece) (ps : List Piece) → Each (Before 112 (plain p)) (map plain ps) → All (ComesBefore p.cube) (map (λ q. q.cube) ps)

@@ -3,7 +3,7 @@ pub mod RowValues
 pub mod RowRecursion
 pub mod PieceParts
 pub mod RowSteps
-pub mod Places
+pub mod TopBits
 pub mod Canonical
 pub mod RowLists
 pub mod RowOrder

@@ -1,35 +1,27 @@
-use Rattle.std.proofs.Common.{ℕ, zero, suc, ◌+◌, ◌^◌, ◌<◌, ◌≡◌, inl, inr, Bool, true, false, List, [], ◌∷◌, ◌++◌, map, Some, slice_get, refl, sym, ap, ◌∙◌, subst, arith, true≢false}
+use Rattle.std.proofs.Common.{ℕ, zero, suc, ◌+◌, ◌^◌, ◌<◌, ◌≡◌, inl, inr, Bool, true, false, List, [], ◌∷◌, map, Some, slice_get, refl, sym, ap, ◌∙◌, subst, arith, true≢false}
 use Rattle.std.specs.List.{IsDistinct}
 use Rattle.std.proofs.lemmas.Bool.{cases_order}
 use Rattle.std.proofs.lemmas.Option.{slice_get_within, get_or_from_slice_get}
 use Rattle.std.proofs.lemmas.Map.Keys.{apart_from_distinct}
-use Rattle.std.proofs.lemmas.List.{append_assoc}
 use Rattle.canon_rows.specs.declared.table.Node.{Node}
 use Rattle.canon_rows.specs.declared.table.Node.TheVariants.{Halves}
 use Rattle.canon_rows.specs.PlainRows.{Plain, with_zero, with_one, whole, IsWellFormed, Each}
-use Rattle.canon_rows.specs.Nodes.{one_row, Tells, HasEntry, IsCutAt, IsCut, StandsFor, Grows, AreDistinct}
+use Rattle.hdr_bits.specs.Lists.{Extends}
+use Rattle.hdr_bits.proofs.ListLemmas.{extends_get}
+use Rattle.canon_rows.specs.Nodes.{one_row, Tells, HasEntry, IsCutAt, IsCut, StandsFor, AreDistinct}
 use Rattle.canon_rows.proofs.RowRecursion.{Each-append, Each-map, Each-weaker, IsWellFormed-star, IsWellFormed-low, IsWellFormed-high}
 
 -- ---- a table that grows
-pub get_grows : (xs ys : List Node) (i : ℕ) (x : Node) → slice_get xs i ≡ Some x → slice_get (xs ++ ys) i ≡ Some x
-get_grows [] ys i x e = absurd cc
-get_grows (y ∷ xs) ys zero x e = e
-get_grows (y ∷ xs) ys (suc i) x e = get_grows xs ys i x e
-
-pub Grows-trans : (a b c : List Node) → Grows a b → Grows b c → Grows a c
-Grows-trans a b c p q =
-    record { rest = p.rest ++ q.rest; added = q.added ∙ (ap (λ x. x ++ q.rest) p.added ∙ append_assoc a p.rest q.rest) }
-
 pub tells_more : (C D : Node → List Plain → Type 0) (x : Node) (r : List Plain) → (C x r → D x r) → Tells C x r → Tells D x r
 tells_more C D x [] h p = p
 tells_more C D x (t ∷ []) h p = p
 tells_more C D x (t ∷ u ∷ ts) h p = h p
 
-pub entry_more : (old new : List Node) (C D : Node → List Plain → Type 0) (id : ℕ) (r : List Plain) → Grows old new → ((x : Node) → C x r → D x r) → HasEntry old C id r → HasEntry new D id r
+pub entry_more : (old new : List Node) (C D : Node → List Plain → Type 0) (id : ℕ) (r : List Plain) → Extends old new → ((x : Node) → C x r → D x r) → HasEntry old C id r → HasEntry new D id r
 entry_more old new C D id r g h s =
-    record { node = s.node; entry = rw g.added (get_grows old g.rest id s.node s.entry); tells = tells_more C D s.node r (h s.node) s.tells }
+    record { node = s.node; entry = extends_get old new id s.node g s.entry; tells = tells_more C D s.node r (h s.node) s.tells }
 
-pub cut_grows : (w : ℕ) (old new : List Node) → Grows old new → (x : Node) (r : List Plain) → IsCut old w x r → IsCut new w x r
+pub cut_grows : (w : ℕ) (old new : List Node) → Extends old new → (x : Node) (r : List Plain) → IsCut old w x r → IsCut new w x r
 unfolding IsCut
 cut_grows zero old new g x r p = p
 cut_grows (suc m) old new g x r p =
@@ -49,7 +41,7 @@ cut_grows (suc m) old new g x r p =
       })
     ]
 
-pub stands_grows : (w : ℕ) (old new : List Node) (id : ℕ) (r : List Plain) → Grows old new → StandsFor old w id r → StandsFor new w id r
+pub stands_grows : (w : ℕ) (old new : List Node) (id : ℕ) (r : List Plain) → Extends old new → StandsFor old w id r → StandsFor new w id r
 stands_grows w old new id r g s = entry_more old new (IsCut old w) (IsCut new w) id r g (λ x. cut_grows w old new g x r) s
 
 cut_wider : (m : ℕ) (nodes : List Node) (x : Node) (r : List Plain) → IsCut nodes m x r → IsCut nodes (suc m) x r
@@ -62,11 +54,11 @@ stands_wider m nodes id r s =
 
 -- ---- a node that is cut
 pub record HasHalves (w : ℕ) (x : Node) : Type 0 where
-  pub place : ℕ
+  pub shift : ℕ
   pub low : ℕ
   pub high : ℕ
-  pub within : place < w
-  pub is : x ≡ Halves place low high
+  pub within : shift < w
+  pub is : x ≡ Halves shift low high
 
 pub cut_has_halves : (w : ℕ) (nodes : List Node) (x : Node) (r : List Plain) → IsCut nodes w x r → HasHalves w x
 unfolding IsCut
@@ -75,12 +67,12 @@ cut_has_halves (suc m) nodes x r p =
     elim p [
       | inl q ↦ let h = cut_has_halves m nodes x r q in
           let l = h.within in
-          record { place = h.place; low = h.low; high = h.high; within = omega arith; is = h.is }
-      | inr q ↦ record { place = m; low = q.low; high = q.high; within = omega arith; is = q.is }
+          record { shift = h.shift; low = h.low; high = h.high; within = omega arith; is = h.is }
+      | inr q ↦ record { shift = m; low = q.low; high = q.high; within = omega arith; is = q.is }
     ]
 
-same_place : (k m a b c d : ℕ) → Halves k a b ≡ Halves m c d → k ≡ m
-same_place k m a b c d e = cc
+same_digit_at : (k m a b c d : ℕ) → Halves k a b ≡ Halves m c d → k ≡ m
+same_digit_at k m a b c d e = cc
 
 same_low : (k m a b c d : ℕ) → Halves k a b ≡ Halves m c d → a ≡ c
 same_low k m a b c d e = cc
@@ -91,17 +83,17 @@ same_high k m a b c d e = cc
 not_below : (m : ℕ) (x : Node) (low high : ℕ) → HasHalves m x → x ≡ Halves m low high → ⊥
 not_below m x low high h e =
     let l = h.within in
-    let p = same_place h.place m h.low h.high low high (sym h.is ∙ e) in
+    let p = same_digit_at h.shift m h.low h.high low high (sym h.is ∙ e) in
     absurd (omega arith)
 
--- the halves of a node that is cut at this place
+-- the halves of a node that is cut at this bit
 pub cut_at : (w : ℕ) (nodes : List Node) (k low high : ℕ) (r : List Plain) → IsCut nodes w (Halves k low high) r → IsCutAt (HasEntry nodes (IsCut nodes k)) k (Halves k low high) r
 unfolding IsCut
 cut_at zero nodes k low high r p = absurd p
 cut_at (suc m) nodes k low high r p =
     elim p [
       | inl q ↦ cut_at m nodes k low high r q
-      | inr q ↦ subst (λ j. IsCutAt (HasEntry nodes (IsCut nodes j)) j (Halves k low high) r) (sym (same_place k m low high q.low q.high q.is)) q
+      | inr q ↦ subst (λ j. IsCutAt (HasEntry nodes (IsCut nodes j)) j (Halves k low high) r) (sym (same_digit_at k m low high q.low q.high q.is)) q
     ]
 
 -- ---- one number, one list of rows
@@ -203,7 +195,7 @@ whole_back m (x ∷ xs) b (y ∷ ys) d p q e =
     let s = r.0 in
     (cc, r.1)
 
--- a row with a digit at the place of weight 2 ^ m is no cube of the places after it
+-- a row with a digit at the bit of weight 2 ^ m is no cube of the bits after it
 first_is_below : (m : ℕ) (t : Plain) (ts a b : List Plain) → t ∷ ts ≡ whole m a b → t.fixed < 2 ^ m → ⊥
 first_is_below m t ts [] [] e l = absurd cc
 first_is_below m t ts [] (y ∷ b) e l =

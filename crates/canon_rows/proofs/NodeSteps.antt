@@ -7,14 +7,15 @@ use Rattle.canon_rows.specs.declared.table.Node.{Node}
 use Rattle.canon_rows.specs.declared.table.Node.TheVariants.{NoRow, OneRow, Halves}
 use Rattle.canon_rows.specs.Pieces.{value_of}
 use Rattle.canon_rows.specs.PlainRows.{Plain, plain, whole, IsRowsOf, IsWellFormed, Each}
-use Rattle.canon_rows.specs.Nodes.{one_row, Tells, HasEntry, IsCut, StandsFor, IsNumberOf, IsOfHalves, Grows, AreDistinct}
+use Rattle.hdr_bits.specs.Lists.{Extends}
+use Rattle.canon_rows.specs.Nodes.{one_row, Tells, HasEntry, IsCut, StandsFor, IsNumberOf, IsOfHalves, AreDistinct}
 use Rattle.canon_rows.proofs.RowRecursion.{rows_well_formed}
 use Rattle.canon_rows.proofs.RowSteps.{rows_none, rows_point, rows_star, rows_step}
 use Rattle.canon_rows.proofs.OneRowOf.{rows_one}
 use Rattle.canon_rows.proofs.NodeRows.{cut_has_halves, cut_at, cut_grows, tells_more, stands_grows, stands_wider, stands_same, stands_one, same_plain}
 
 -- ---- masks
--- a mask of the last w places is one of all places
+-- a mask of the last w bits is one of all bits
 pub fits_all : (n w : ℕ) → w ≤ 112 → n < 1 * 2 ^ w % 2 ^ 128 → n < 2 ^ 112
 fits_all n w l h =
     let s = one_shl w 128 (omega arith) in
@@ -107,7 +108,7 @@ number_of_same nodes m low high f g h e p q a b =
       stands = subst (λ k. StandsFor nodes k low p.rows) w (stands_wider m nodes low p.rows p.stands);
     }
 
-pub number_of_both : (old new : List Node) (m low high id : ℕ) (x : Node) (f g h : ℕ → Option ℕ) → (low ≡ high → ⊥) → Grows old new → AreDistinct new → slice_get new id ≡ Some x → IsOfHalves old m low high x → IsNumberOf old m low g → IsNumberOf old m high h → ((n : ℕ) → n < 2 ^ m → g n ≡ f n) → ((n : ℕ) → n < 2 ^ m → h n ≡ f (n + 2 ^ m)) → IsNumberOf new (m + 1) id f
+pub number_of_both : (old new : List Node) (m low high id : ℕ) (x : Node) (f g h : ℕ → Option ℕ) → (low ≡ high → ⊥) → Extends old new → AreDistinct new → slice_get new id ≡ Some x → IsOfHalves old m low high x → IsNumberOf old m low g → IsNumberOf old m high h → ((n : ℕ) → n < 2 ^ m → g n ≡ f n) → ((n : ℕ) → n < 2 ^ m → h n ≡ f (n + 2 ^ m)) → IsNumberOf new (m + 1) id f
 number_of_both old new m low high id x f g h n grows distinct e i p q a b =
     let apart : p.rows ≢ q.rows = λ s. n (stands_one new distinct m low high p.rows q.rows s (stands_grows m old new low p.rows grows p.stands) (stands_grows m old new high q.rows grows q.stands)) in
     let r : List Plain = whole m p.rows q.rows in
@@ -121,7 +122,7 @@ number_of_both old new m low high id x f g h n grows distinct e i p q a b =
     }
 
 -- ---- the number of pieces
-pub number_grows : (w : ℕ) (old new : List Node) (id : ℕ) (f : ℕ → Option ℕ) → Grows old new → IsNumberOf old w id f → IsNumberOf new w id f
+pub number_grows : (w : ℕ) (old new : List Node) (id : ℕ) (f : ℕ → Option ℕ) → Extends old new → IsNumberOf old w id f → IsNumberOf new w id f
 number_grows w old new id f g p = record { rows = p.rows; of = p.of; stands = stands_grows w old new id p.rows g p.stands }
 
 pub number_of_none : (nodes : List Node) (w id : ℕ) (ps : List Piece) → None ≡ slice_get ps 0 → slice_get nodes id ≡ Some NoRow → IsNumberOf nodes w id (value_of ps)
@@ -188,14 +189,14 @@ rows_of_halves nodes w id k low high x zeros ones items e i f g h rows s =
     let o : ones ≡ c.ones = g c.ones c.high_fits (subst (λ j. StandsFor nodes k j c.ones) n.1 c.high_stands) in
     h ∙ (ap (λ r. whole k r ones) z ∙ (ap (whole k c.zeros) o ∙ sym c.both))
 
-same_place : (k m a b c d : ℕ) → Halves k a b ≡ Halves m c d → k ≡ m
-same_place k m a b c d e = cc
+same_digit_at : (k m a b c d : ℕ) → Halves k a b ≡ Halves m c d → k ≡ m
+same_digit_at k m a b c d e = cc
 
 pub not_as_wide : (nodes : List Node) (w id k low high : ℕ) (x : Node) (rows : List Plain) → slice_get nodes id ≡ Some x → x ≡ Halves k low high → w ≤ k → StandsFor nodes w id rows → ⊥
 not_as_wide nodes w id k low high x rows e i l s =
     let h = cut_has_halves w nodes (Halves k low high) rows (halves_stand nodes w id k low high x rows e i s) in
     let b = h.within in
-    let p : k ≡ h.place = same_place k h.place low high h.low h.high h.is in
+    let p : k ≡ h.shift = same_digit_at k h.shift low high h.low h.high h.is in
     absurd (omega arith)
 
 pub All-as_wide : (w k : ℕ) (ps : List Piece) → k ≤ w → All (λ p. p.cube.fixed < 2 ^ k) ps → All (λ p. p.cube.fixed < 2 ^ w) ps

@@ -1,7 +1,7 @@
 use Rattle.std.proofs.Common.{ℕ, zero, suc, ◌+◌, ◌^◌, ◌<◌, ◌≡◌, inl, inr, Bool, true, false, cond, [], ◌∷◌, Option, Some, None, refl, sym, ap, subst, arith, bit_and}
 use Rattle.std.proofs.lemmas.Nat.{and_le_r}
 use Rattle.canon_rows.specs.declared.Piece.{Piece}
-use Rattle.canon_rows.specs.Pieces.{value_of, at_place}
+use Rattle.canon_rows.specs.Pieces.{value_of, with_top}
 use Rattle.canon_rows.specs.PlainRows.{Plain, plain, IsRowsOf}
 use Rattle.canon_rows.proofs.HalfMasks.{test_low, test_high, test_low_not, test_high_not}
 use Rattle.canon_rows.proofs.PieceParts.{gives, gives_star}
@@ -24,7 +24,7 @@ star_step m value fixed bits l h =
 none_rows : (m : ℕ) (f : ℕ → Option ℕ) → ((n : ℕ) → n < 2 ^ m → None ≡ f n) → IsRowsOf m f []
 none_rows m f h = rows_ext m (λ n. None) f [] h (rows_none m (λ n. None) (λ n. refl))
 
-digit_step : (c : Bool) (m value fixed bits : ℕ) → fixed < 2 ^ m → bits < 2 ^ m → HasOneRow m value fixed bits → HasOneRow (suc m) value (at_place true m fixed) (at_place c m bits)
+digit_step : (c : Bool) (m value fixed bits : ℕ) → fixed < 2 ^ m → bits < 2 ^ m → HasOneRow m value fixed bits → HasOneRow (suc m) value (with_top true m fixed) (with_top c m bits)
 unfolding IsRowsOf
 digit_step true m value fixed bits l k h =
     let t : Plain = record { fixed = fixed; bits = bits; value = value } in

@@ -6,9 +6,9 @@ use Rattle.hdr_bits.specs.Rows.{IsRow}
 use Rattle.hdr_bits.proofs.Masks.{AgreesFrom}
 use Rattle.hdr_bits.proofs.CubeLemmas.{same_cube}
 use Rattle.canon_rows.specs.Laws.{IsDecided, HasRowOf}
-use Rattle.canon_rows.specs.Pieces.{at_place}
+use Rattle.canon_rows.specs.Pieces.{with_top}
 use Rattle.canon_rows.proofs.HalfMasks.{twice, digits_low, digits_high}
-use Rattle.canon_rows.proofs.Places.{bit_below, place_lt, by_digit, by_place, agrees_same}
+use Rattle.canon_rows.proofs.TopBits.{bit_below, with_top_lt, by_digit, by_shift, agrees_same}
 use Rattle.canon_rows.proofs.Canonical.{IsRowAt, same_at, star_agrees, digit_agrees, digit_top, agrees_star, agrees_digit, row_star, star_row, row_digit, digit_row}
 use Rattle.canon_rows.proofs.RowLists.{by_mask}
 use Rattle.canon_rows.proofs.CanonicalRows.{at_from_row, row_from_at, agrees_from_in, in_from_agrees}
@@ -23,10 +23,10 @@ row_constant (suc m) f fixed bits l d h =
     by_mask m (λ fixed bits. IsRowAt (suc m) f fixed bits → IsConstant (suc m) f fixed bits)
     (λ fixed bits l d h. let q = star_row m f fixed bits l h in
     let r = row_constant m f fixed bits l d q.1 in
-    by_digit m (λ n. AgreesFrom (suc m) 0 fixed bits n → (k : ℕ) → k < 2 ^ suc m → AgreesFrom (suc m) 0 fixed bits k → f n ≡ f k) (λ c n a b. by_digit m (λ k. AgreesFrom (suc m) 0 fixed bits k → f (at_place c m n) ≡ f k) (λ e k x y. same_at c m f q.0 n a ∙ (r n a (star_agrees c m 0 fixed bits n b) k x (star_agrees e m 0 fixed bits k y) ∙ sym (same_at e m f q.0 k x)))))
+    by_digit m (λ n. AgreesFrom (suc m) 0 fixed bits n → (k : ℕ) → k < 2 ^ suc m → AgreesFrom (suc m) 0 fixed bits k → f n ≡ f k) (λ c n a b. by_digit m (λ k. AgreesFrom (suc m) 0 fixed bits k → f (with_top c m n) ≡ f k) (λ e k x y. same_at c m f q.0 n a ∙ (r n a (star_agrees c m 0 fixed bits n b) k x (star_agrees e m 0 fixed bits k y) ∙ sym (same_at e m f q.0 k x)))))
     (λ c fixed bits l i d h. let q = digit_row c m f fixed bits l i h in
-    let r = row_constant m (λ n. f (at_place c m n)) fixed bits l d q.1 in
-    by_digit m (λ n. AgreesFrom (suc m) 0 (at_place true m fixed) (at_place c m bits) n → (k : ℕ) → k < 2 ^ suc m → AgreesFrom (suc m) 0 (at_place true m fixed) (at_place c m bits) k → f n ≡ f k) (λ x n a b. by_digit m (λ k. AgreesFrom (suc m) 0 (at_place true m fixed) (at_place c m bits) k → f (at_place x m n) ≡ f k) (λ y k e g. subst (λ z. f (at_place z m n) ≡ f (at_place y m k)) (digit_top c x m 0 fixed bits n l i a (omega arith) b) (subst (λ z. f (at_place c m n) ≡ f (at_place z m k)) (digit_top c y m 0 fixed bits k l i e (omega arith) g) (r n a (digit_agrees c x m 0 fixed bits n b) k e (digit_agrees c y m 0 fixed bits k g))))))
+    let r = row_constant m (λ n. f (with_top c m n)) fixed bits l d q.1 in
+    by_digit m (λ n. AgreesFrom (suc m) 0 (with_top true m fixed) (with_top c m bits) n → (k : ℕ) → k < 2 ^ suc m → AgreesFrom (suc m) 0 (with_top true m fixed) (with_top c m bits) k → f n ≡ f k) (λ x n a b. by_digit m (λ k. AgreesFrom (suc m) 0 (with_top true m fixed) (with_top c m bits) k → f (with_top x m n) ≡ f k) (λ y k e g. subst (λ z. f (with_top z m n) ≡ f (with_top y m k)) (digit_top c x m 0 fixed bits n l i a (omega arith) b) (subst (λ z. f (with_top c m n) ≡ f (with_top z m k)) (digit_top c y m 0 fixed bits k l i e (omega arith) g) (r n a (digit_agrees c x m 0 fixed bits n b) k e (digit_agrees c y m 0 fixed bits k g))))))
     fixed bits l d h
 
 pub rows_are_constant : {V : Type 0} (f : ℕ → Option V) (c : Cube) → IsRow f c → (h g : ℕ) → h < 2 ^ 112 → g < 2 ^ 112 → IsIn c h → IsIn c g → f h ≡ f g
@@ -49,9 +49,9 @@ rows_one (suc m) f fixed bits l d h =
     (λ fixed' bits' l' d' h'. let q' = star_row m f fixed' bits' l' h' in by_digit m (λ n. AgreesFrom (suc m) 0 fixed bits n → AgreesFrom (suc m) 0 fixed' bits' n → AreOne fixed bits fixed' bits') (λ x n k a b. rows_one m f fixed bits l d q.1 fixed' bits' l' d' q'.1 n k (star_agrees x m 0 fixed bits n a) (star_agrees x m 0 fixed' bits' n b)))
     (λ c fixed' bits' l' i' d' h' n k a b. absurd ((digit_row c m f fixed' bits' l' i' h').0 q.0)))
     (λ c fixed bits l i d h. let q = digit_row c m f fixed bits l i h in
-    by_mask m (λ fixed' bits'. IsRowAt (suc m) f fixed' bits' → (n : ℕ) → n < 2 ^ suc m → AgreesFrom (suc m) 0 (at_place true m fixed) (at_place c m bits) n → AgreesFrom (suc m) 0 fixed' bits' n → AreOne (at_place true m fixed) (at_place c m bits) fixed' bits')
+    by_mask m (λ fixed' bits'. IsRowAt (suc m) f fixed' bits' → (n : ℕ) → n < 2 ^ suc m → AgreesFrom (suc m) 0 (with_top true m fixed) (with_top c m bits) n → AgreesFrom (suc m) 0 fixed' bits' n → AreOne (with_top true m fixed) (with_top c m bits) fixed' bits')
     (λ fixed' bits' l' d' h' n k a b. absurd (q.0 (star_row m f fixed' bits' l' h').0))
-    (λ e fixed' bits' l' i' d' h'. let q' = digit_row e m f fixed' bits' l' i' h' in by_digit m (λ n. AgreesFrom (suc m) 0 (at_place true m fixed) (at_place c m bits) n → AgreesFrom (suc m) 0 (at_place true m fixed') (at_place e m bits') n → AreOne (at_place true m fixed) (at_place c m bits) (at_place true m fixed') (at_place e m bits')) (λ x n k a b. let s : e ≡ c = digit_top e x m 0 fixed' bits' n l' i' k (omega arith) b ∙ sym (digit_top c x m 0 fixed bits n l i k (omega arith) a) in let o = rows_one m (λ t. f (at_place c m t)) fixed bits l d q.1 fixed' bits' l' d' (subst (λ t. IsRowAt m (λ u. f (at_place t m u)) fixed' bits') s q'.1) n k (digit_agrees c x m 0 fixed bits n a) (digit_agrees e x m 0 fixed' bits' n b) in (ap (at_place true m) o.0, subst (λ t. at_place c m bits ≡ at_place t m bits') (sym s) (ap (at_place c m) o.1)))))
+    (λ e fixed' bits' l' i' d' h'. let q' = digit_row e m f fixed' bits' l' i' h' in by_digit m (λ n. AgreesFrom (suc m) 0 (with_top true m fixed) (with_top c m bits) n → AgreesFrom (suc m) 0 (with_top true m fixed') (with_top e m bits') n → AreOne (with_top true m fixed) (with_top c m bits) (with_top true m fixed') (with_top e m bits')) (λ x n k a b. let s : e ≡ c = digit_top e x m 0 fixed' bits' n l' i' k (omega arith) b ∙ sym (digit_top c x m 0 fixed bits n l i k (omega arith) a) in let o = rows_one m (λ t. f (with_top c m t)) fixed bits l d q.1 fixed' bits' l' d' (subst (λ t. IsRowAt m (λ u. f (with_top t m u)) fixed' bits') s q'.1) n k (digit_agrees c x m 0 fixed bits n a) (digit_agrees e x m 0 fixed' bits' n b) in (ap (with_top true m) o.0, subst (λ t. with_top c m bits ≡ with_top t m bits') (sym s) (ap (with_top c m) o.1)))))
     fixed bits l d h
 
 pub rows_are_disjoint : {V : Type 0} (f : ℕ → Option V) (c d : Cube) → IsRow f c → IsRow f d → (h : ℕ) → h < 2 ^ 112 → IsIn c h → IsIn d h → c ≡ d
@@ -60,7 +60,7 @@ rows_are_disjoint f c d r s h l a b =
     same_cube c d o.0 o.1
 
 -- ---- each header with a value is in a row, where it is decided whether two values are equal
-digits_at : (c : Bool) (m fixed bits : ℕ) → fixed < 2 ^ m → bit_and bits fixed ≡ bits → bit_and (at_place c m bits) (at_place true m fixed) ≡ at_place c m bits
+digits_at : (c : Bool) (m fixed bits : ℕ) → fixed < 2 ^ m → bit_and bits fixed ≡ bits → bit_and (with_top c m bits) (with_top true m fixed) ≡ with_top c m bits
 digits_at true m fixed bits b d = digits_high m fixed bits b d
 digits_at false m fixed bits b d = digits_low m fixed bits b d
 
@@ -68,7 +68,7 @@ abbrev SameBelow : {V : Type 0} → ℕ → ℕ → (ℕ → Option V) → Type 
 SameBelow k m f = (n : ℕ) → n < k → f n ≡ f (n + 2 ^ m)
 
 more_same : {V : Type 0} (k m : ℕ) (f : ℕ → Option V) → SameBelow k m f → f k ≡ f (k + 2 ^ m) → SameBelow (suc k) m f
-more_same k m f s e = by_place k (λ n. f n ≡ f (n + 2 ^ m)) e s
+more_same k m f s e = by_shift k (λ n. f n ≡ f (n + 2 ^ m)) e s
 
 decide_below : {V : Type 0} (k m : ℕ) (f : ℕ → Option V) → IsDecided (Option V) → SameBelow k m f ⊎ (SameBelow k m f → ⊥)
 decide_below zero m f d = inl (λ n l. absurd (omega arith))
@@ -113,13 +113,13 @@ covered (suc m) f d =
         small = let b = q.small in omega (arith, t);
         digits = q.digits;
         row = row_star m f q.fixed q.bits q.below s q.row;
-        agrees = agrees_star m 0 q.fixed q.bits (at_place c m n) q.below (agrees_same m 0 q.fixed q.bits (at_place c m n) q.fixed q.bits n (λ i k. refl) (λ i k. refl) (bit_below c m n) q.agrees);
+        agrees = agrees_star m 0 q.fixed q.bits (with_top c m n) q.below (agrees_same m 0 q.fixed q.bits (with_top c m n) q.fixed q.bits n (λ i k. refl) (λ i k. refl) (bit_below c m n) q.agrees);
       })
-      | inr s ↦ by_digit m (λ n. IsSome (f n) → IsCovered (suc m) f n) (λ c n l v. let q = covered m (λ x. f (at_place c m x)) d n l v in record {
-        fixed = at_place true m q.fixed;
-        bits = at_place c m q.bits;
-        below = place_lt true m q.fixed q.below;
-        small = place_lt c m q.bits q.small;
+      | inr s ↦ by_digit m (λ n. IsSome (f n) → IsCovered (suc m) f n) (λ c n l v. let q = covered m (λ x. f (with_top c m x)) d n l v in record {
+        fixed = with_top true m q.fixed;
+        bits = with_top c m q.bits;
+        below = with_top_lt true m q.fixed q.below;
+        small = with_top_lt c m q.bits q.small;
         digits = digits_at c m q.fixed q.bits q.below q.digits;
         row = row_digit c m f q.fixed q.bits q.below q.small s q.row;
         agrees = agrees_digit c m 0 q.fixed q.bits n q.small l q.agrees;

@@ -2,11 +2,11 @@ use Rattle.std.proofs.Common.{ℕ, zero, suc, ◌+◌, ◌-◌, ◌^◌, ◌<◌
 use Rattle.std.proofs.lemmas.Bool.{cases_lt}
 use Rattle.std.proofs.lemmas.Nat.{and_le_r}
 use Rattle.hdr_bits.proofs.Masks.{AgreesFrom}
-use Rattle.canon_rows.specs.Pieces.{at_place}
+use Rattle.canon_rows.specs.Pieces.{with_top}
 use Rattle.canon_rows.specs.PlainRows.{Plain, with_zero, with_one, whole, point, IsRowsOf, IsWellFormed, Each}
 use Rattle.canon_rows.proofs.HalfMasks.{twice, digits_low, digits_high, digits_of_low, digits_of_high}
 use Rattle.canon_rows.proofs.RowRecursion.{same_rows, same_halves, Each-append, Each-map, Each-weaker}
-use Rattle.canon_rows.proofs.Places.{by_digit}
+use Rattle.canon_rows.proofs.TopBits.{by_digit}
 use Rattle.canon_rows.proofs.Canonical.{SameHalves, IsRowAt, same_at, star_agrees, digit_agrees, digit_top, row_star, star_row, row_digit, digit_row}
 
 -- ---- each list element is a row, with its value
@@ -28,14 +28,14 @@ of_star m f t s h =
 
 -- a row of a half as a row of the whole
 abbrev pub with_digit : Bool → ℕ → Plain → Plain
-with_digit c m t = record { fixed = at_place true m t.fixed; bits = at_place c m t.bits; value = t.value }
+with_digit c m t = record { fixed = with_top true m t.fixed; bits = with_top c m t.bits; value = t.value }
 
-of_digit : (c : Bool) (m : ℕ) (f : ℕ → Option ℕ) (t : Plain) → (SameHalves m f → ⊥) → IsWellFormed (suc m) (with_digit c m t) → IsRowOf m (λ n. f (at_place c m n)) t → IsRowOf (suc m) f (with_digit c m t)
+of_digit : (c : Bool) (m : ℕ) (f : ℕ → Option ℕ) (t : Plain) → (SameHalves m f → ⊥) → IsWellFormed (suc m) (with_digit c m t) → IsRowOf m (λ n. f (with_top c m n)) t → IsRowOf (suc m) f (with_digit c m t)
 of_digit c m f t s b h =
     record {
       well = b;
       row = row_digit c m f t.fixed t.bits h.well.below h.well.small s h.row;
-      value = by_digit m (λ n. AgreesFrom (suc m) 0 (at_place true m t.fixed) (at_place c m t.bits) n → f n ≡ Some t.value) (λ d n l a. subst (λ q. f (at_place q m n) ≡ Some t.value) (digit_top c d m 0 t.fixed t.bits n h.well.below h.well.small l (omega arith) a) (h.value n l (digit_agrees c d m 0 t.fixed t.bits n a)));
+      value = by_digit m (λ n. AgreesFrom (suc m) 0 (with_top true m t.fixed) (with_top c m t.bits) n → f n ≡ Some t.value) (λ d n l a. subst (λ q. f (with_top q m n) ≡ Some t.value) (digit_top c d m 0 t.fixed t.bits n h.well.below h.well.small l (omega arith) a) (h.value n l (digit_agrees c d m 0 t.fixed t.bits n a)));
     }
 
 well_formed_digit : (c : Bool) (m : ℕ) (t : Plain) → IsWellFormed m t → IsWellFormed (suc m) (with_digit c m t)
@@ -84,17 +84,17 @@ has_right : (fixed bits : ℕ) (xs ys : List Plain) → HasRow fixed bits ys →
 has_right fixed bits [] ys h = h
 has_right fixed bits (x ∷ xs) ys h = inr (has_right fixed bits xs ys h)
 
-has_digit : (c : Bool) (m fixed bits : ℕ) (xs : List Plain) → HasRow fixed bits xs → HasRow (at_place true m fixed) (at_place c m bits) (map (with_digit c m) xs)
+has_digit : (c : Bool) (m fixed bits : ℕ) (xs : List Plain) → HasRow fixed bits xs → HasRow (with_top true m fixed) (with_top c m bits) (map (with_digit c m) xs)
 has_digit c m fixed bits [] h = absurd h
 has_digit c m fixed bits (x ∷ xs) h =
-    elim h [ inl e ↦ inl (ap (at_place true m) e.0, ap (at_place c m) e.1) | inr k ↦ inr (has_digit c m fixed bits xs k) ]
+    elim h [ inl e ↦ inl (ap (with_top true m) e.0, ap (with_top c m) e.1) | inr k ↦ inr (has_digit c m fixed bits xs k) ]
 
 has_point : (o : Option ℕ) → IsSome o → HasRow 0 0 (point o)
 has_point None h = absurd cc
 has_point (Some v) h = inl (refl, refl)
 
--- a mask of m + 1 places has `*` or a digit at the first
-pub by_mask : (m : ℕ) (P : ℕ → ℕ → Type 0) → ((fixed bits : ℕ) → fixed < 2 ^ m → bit_and bits fixed ≡ bits → P fixed bits) → ((c : Bool) (fixed bits : ℕ) → fixed < 2 ^ m → bits < 2 ^ m → bit_and bits fixed ≡ bits → P (at_place true m fixed) (at_place c m bits)) → (fixed bits : ℕ) → fixed < 2 ^ suc m → bit_and bits fixed ≡ bits → P fixed bits
+-- a mask of m + 1 bits has `*` or a digit at the first
+pub by_mask : (m : ℕ) (P : ℕ → ℕ → Type 0) → ((fixed bits : ℕ) → fixed < 2 ^ m → bit_and bits fixed ≡ bits → P fixed bits) → ((c : Bool) (fixed bits : ℕ) → fixed < 2 ^ m → bits < 2 ^ m → bit_and bits fixed ≡ bits → P (with_top true m fixed) (with_top c m bits)) → (fixed bits : ℕ) → fixed < 2 ^ suc m → bit_and bits fixed ≡ bits → P fixed bits
 by_mask m P star digits fixed bits l d =
     let t = twice m in
     elim (cases_lt fixed (2 ^ m)) [
@@ -109,11 +109,11 @@ by_mask m P star digits fixed bits l d =
     ]
 
 -- a row of a half is in the list of both
-has_either : (m : ℕ) (f : ℕ → Option ℕ) (xs ys : List Plain) → ((fixed bits : ℕ) → fixed < 2 ^ m → bit_and bits fixed ≡ bits → IsRowAt m f fixed bits → HasRow fixed bits xs) → ((fixed bits : ℕ) → fixed < 2 ^ m → bit_and bits fixed ≡ bits → IsRowAt m (λ n. f (n + 2 ^ m)) fixed bits → HasRow fixed bits ys) → (c : Bool) (fixed bits : ℕ) → fixed < 2 ^ m → bit_and bits fixed ≡ bits → IsRowAt m (λ n. f (at_place c m n)) fixed bits → HasRow (at_place true m fixed) (at_place c m bits) (whole m xs ys)
+has_either : (m : ℕ) (f : ℕ → Option ℕ) (xs ys : List Plain) → ((fixed bits : ℕ) → fixed < 2 ^ m → bit_and bits fixed ≡ bits → IsRowAt m f fixed bits → HasRow fixed bits xs) → ((fixed bits : ℕ) → fixed < 2 ^ m → bit_and bits fixed ≡ bits → IsRowAt m (λ n. f (n + 2 ^ m)) fixed bits → HasRow fixed bits ys) → (c : Bool) (fixed bits : ℕ) → fixed < 2 ^ m → bit_and bits fixed ≡ bits → IsRowAt m (λ n. f (with_top c m n)) fixed bits → HasRow (with_top true m fixed) (with_top c m bits) (whole m xs ys)
 has_either m f xs ys low high true fixed bits k d h =
-    has_right (at_place true m fixed) (at_place true m bits) (map (with_zero m) xs) (map (with_one m) ys) (has_digit true m fixed bits ys (high fixed bits k d h))
+    has_right (with_top true m fixed) (with_top true m bits) (map (with_zero m) xs) (map (with_one m) ys) (has_digit true m fixed bits ys (high fixed bits k d h))
 has_either m f xs ys low high false fixed bits k d h =
-    has_left (at_place true m fixed) (at_place false m bits) (map (with_zero m) xs) (map (with_one m) ys) (has_digit false m fixed bits xs (low fixed bits k d h))
+    has_left (with_top true m fixed) (with_top false m bits) (map (with_zero m) xs) (map (with_one m) ys) (has_digit false m fixed bits xs (low fixed bits k d h))
 
 pub rows_every : (w : ℕ) (f : ℕ → Option ℕ) (r : List Plain) → IsRowsOf w f r → (fixed bits : ℕ) → fixed < 2 ^ w → bit_and bits fixed ≡ bits → IsRowAt w f fixed bits → HasRow fixed bits r
 unfolding IsRowsOf
@@ -133,5 +133,5 @@ rows_every (suc m) f r p =
     ])
     (λ c fixed bits k l d h. let q = digit_row c m f fixed bits k l h in elim p.4.merged [
       | inl x ↦ absurd (q.0 (same_halves m f p.0 p.1 p.2 p.3 x.0))
-      | inr x ↦ subst (HasRow (at_place true m fixed) (at_place c m bits)) (sym x.1) (has_either m f p.0 p.1 low high c fixed bits k d q.1)
+      | inr x ↦ subst (HasRow (with_top true m fixed) (with_top c m bits)) (sym x.1) (has_either m f p.0 p.1 low high c fixed bits k d q.1)
     ])

@@ -1,10 +1,10 @@
 use Rattle.std.proofs.Common.{ℕ, zero, suc, ◌+◌, ◌^◌, ◌<◌, ◌≡◌, inl, inr, Bool, true, false, List, [], ◌∷◌, ◌++◌, map, Option, Some, None, refl, sym, ap, ◌∙◌, subst, arith}
 use Rattle.std.specs.Int.{bit_at}
 use Rattle.std.proofs.lemmas.Nat.Bits.{bit_at_above}
-use Rattle.canon_rows.specs.Pieces.{at_place}
+use Rattle.canon_rows.specs.Pieces.{with_top}
 use Rattle.canon_rows.specs.PlainRows.{Plain, with_zero, with_one, point, IsRowsOf, IsWellFormed, Each}
 use Rattle.canon_rows.proofs.RowRecursion.{rows_well_formed, Each-append, Each-map}
-use Rattle.canon_rows.proofs.Places.{bit_below, bit_top, by_place}
+use Rattle.canon_rows.proofs.TopBits.{bit_below, bit_top, by_shift}
 use Rattle.canon_rows.proofs.RowLists.{with_digit}
 
 -- at the highest position where the two differ, the first has the digit 0 and the second 1
@@ -21,8 +21,8 @@ before_star m t u a b h =
     record {
       position = h.position;
       within = omega arith;
-      same_fixed = by_place m (λ i. h.position < i → bit_at t.fixed i ≡ bit_at u.fixed i) (λ _. bit_at_above t.fixed m m a.below (omega arith) ∙ sym (bit_at_above u.fixed m m b.below (omega arith))) h.same_fixed;
-      same_bits = by_place m (λ i. h.position < i → bit_at t.bits i ≡ bit_at u.bits i) (λ _. bit_at_above t.bits m m a.small (omega arith) ∙ sym (bit_at_above u.bits m m b.small (omega arith))) h.same_bits;
+      same_fixed = by_shift m (λ i. h.position < i → bit_at t.fixed i ≡ bit_at u.fixed i) (λ _. bit_at_above t.fixed m m a.below (omega arith) ∙ sym (bit_at_above u.fixed m m b.below (omega arith))) h.same_fixed;
+      same_bits = by_shift m (λ i. h.position < i → bit_at t.bits i ≡ bit_at u.bits i) (λ _. bit_at_above t.bits m m a.small (omega arith) ∙ sym (bit_at_above u.bits m m b.small (omega arith))) h.same_bits;
       digits = h.digits;
       zero_one = h.zero_one;
     }
@@ -34,8 +34,8 @@ before_digit c m t u a b h =
     record {
       position = p;
       within = omega arith;
-      same_fixed = by_place m (λ i. p < i → bit_at (at_place true m t.fixed) i ≡ bit_at (at_place true m u.fixed) i) (λ _. bit_top true m t.fixed a.below ∙ sym (bit_top true m u.fixed b.below)) (λ i k q. bit_below true m t.fixed i k ∙ (h.same_fixed i k q ∙ sym (bit_below true m u.fixed i k)));
-      same_bits = by_place m (λ i. p < i → bit_at (at_place c m t.bits) i ≡ bit_at (at_place c m u.bits) i) (λ _. bit_top c m t.bits a.small ∙ sym (bit_top c m u.bits b.small)) (λ i k q. bit_below c m t.bits i k ∙ (h.same_bits i k q ∙ sym (bit_below c m u.bits i k)));
+      same_fixed = by_shift m (λ i. p < i → bit_at (with_top true m t.fixed) i ≡ bit_at (with_top true m u.fixed) i) (λ _. bit_top true m t.fixed a.below ∙ sym (bit_top true m u.fixed b.below)) (λ i k q. bit_below true m t.fixed i k ∙ (h.same_fixed i k q ∙ sym (bit_below true m u.fixed i k)));
+      same_bits = by_shift m (λ i. p < i → bit_at (with_top c m t.bits) i ≡ bit_at (with_top c m u.bits) i) (λ _. bit_top c m t.bits a.small ∙ sym (bit_top c m u.bits b.small)) (λ i k q. bit_below c m t.bits i k ∙ (h.same_bits i k q ∙ sym (bit_below c m u.bits i k)));
       digits = (bit_below true m t.fixed p l ∙ h.digits.0, bit_below true m u.fixed p l ∙ h.digits.1);
       zero_one = (bit_below c m t.bits p l ∙ h.zero_one.0, bit_below c m u.bits p l ∙ h.zero_one.1);
     }

@@ -60,7 +60,7 @@ rows_well_formed (suc m) f r p =
       | inr x ↦ subst (Each (IsWellFormed (suc m))) (sym x.1) (Each-append (IsWellFormed (suc m)) (map (with_zero m) p.0) (map (with_one m) p.1) (Each-map (IsWellFormed m) (IsWellFormed (suc m)) (with_zero m) (IsWellFormed-low m) p.0 low) (Each-map (IsWellFormed m) (IsWellFormed (suc m)) (with_one m) (IsWellFormed-high m) p.1 high))
     ]
 
--- a number of m + 1 places is one of m places, or that plus 2 ^ m
+-- a number of m + 1 bits is one of m bits, or that plus 2 ^ m
 pub by_halves : (m : ℕ) (P : ℕ → Type 0) → ((n : ℕ) → n < 2 ^ m → P n) → ((n : ℕ) → n < 2 ^ m → P (n + 2 ^ m)) → (n : ℕ) → n < 2 ^ suc m → P n
 by_halves m P low high n l =
     let t = twice m in

@@ -43,7 +43,7 @@ value_of_first : (b : Bool) (v : ℕ) (o : Option ℕ) → b ≡ true → cond b
 value_of_first true v o e = refl
 value_of_first false v o e = cc
 
--- at no places the first piece is the row
+-- at no bits the first piece is the row
 pub rows_point : (p : Piece) (ps : List Piece) → p.cube.fixed < 2 ^ 0 → IsRowsOf 0 (value_of (p ∷ ps)) (plain p ∷ [])
 unfolding IsRowsOf
 rows_point p ps l =

@@ -1,5 +1,5 @@
 -- the table of functions: which rows the function with a number has
-use Rattle.std.specs.Prelude.{ℕ, ◌≡◌, ◌≢◌, ◌<◌, ◌+◌, ◌^◌, ◌⊎◌, List, [], ◌∷◌, ◌++◌, Option, Some, slice_get}
+use Rattle.std.specs.Prelude.{ℕ, ◌≡◌, ◌≢◌, ◌<◌, ◌+◌, ◌^◌, ◌⊎◌, List, [], ◌∷◌, Option, Some, slice_get}
 use Rattle.std.proofs.Common.{zero, suc}
 use Rattle.canon_rows.specs.declared.table.Node.{Node}
 use Rattle.canon_rows.specs.declared.table.Node.TheVariants.{NoRow, OneRow, Halves}
@@ -20,7 +20,7 @@ pub record HasEntry (nodes : List Node) (IsCutInto : Node → List Plain → Typ
   pub entry : slice_get nodes id ≡ Some node
   pub tells : Tells IsCutInto node rows
 
--- the node is cut at the place of weight 2 ^ m, and its halves stand for the halves of the rows
+-- the node is cut at the bit of weight 2 ^ m, and its halves stand for the halves of the rows
 pub record IsCutAt (StandsFor : ℕ → List Plain → Type 0) (m : ℕ) (x : Node) (rows : List Plain) : Type 0 where
   pub low : ℕ
   pub high : ℕ
@@ -33,7 +33,7 @@ pub record IsCutAt (StandsFor : ℕ → List Plain → Type 0) (m : ℕ) (x : No
   pub low_fits : Each (IsWellFormed m) zeros
   pub high_fits : Each (IsWellFormed m) ones
 
--- the node is cut at one of the last places
+-- the node is cut at one of the last bits
 unfoldable pub IsCut : List Node → ℕ → Node → List Plain → Type 0
 IsCut nodes zero x rows = ⊥
 IsCut nodes (suc m) x rows = IsCut nodes m x rows ⊎ IsCutAt (HasEntry nodes (IsCut nodes m)) m x rows
@@ -48,7 +48,7 @@ pub record IsNumberOf (nodes : List Node) (width id : ℕ) (f : ℕ → Option �
   pub of : IsRowsOf width f rows
   pub stands : StandsFor nodes width id rows
 
--- g and h are f where the place of weight 2 ^ m is 0, and where it is 1
+-- g and h are f where the bit of weight 2 ^ m is 0, and where it is 1
 abbrev pub AreHalvesOf : ℕ → (ℕ → Option ℕ) → (ℕ → Option ℕ) → (ℕ → Option ℕ) → Type 0
 AreHalvesOf m f g h = (n : ℕ) → n < 2 ^ m → (g n ≡ f n) × (h n ≡ f (n + 2 ^ m))
 
@@ -56,11 +56,6 @@ AreHalvesOf m f g h = (n : ℕ) → n < 2 ^ m → (g n ≡ f n) × (h n ≡ f (n
 abbrev pub IsOfHalves : List Node → ℕ → ℕ → ℕ → Node → Type 0
 IsOfHalves nodes m low high x =
     (zeros ones : List Plain) → StandsFor nodes m low zeros → StandsFor nodes m high ones → Each (IsWellFormed m) zeros → Each (IsWellFormed m) ones → zeros ≢ ones → Tells (IsCut nodes (suc m)) x (whole m zeros ones)
-
--- nodes were added, and the old ones keep their numbers
-pub record Grows (old new : List Node) : Type 0 where
-  pub rest : List Node
-  pub added : new ≡ old ++ rest
 
 -- no node has two numbers
 pub record AreDistinct (nodes : List Node) : Type 0 where

@@ -16,6 +16,6 @@ AreApart p q = (h : ℕ) → h < 2 ^ 112 → IsIn p.cube h → IsIn q.cube h →
 abbrev pub HasValue : (ℕ → Option ℕ) → Piece → Type 0
 HasValue f p = (h : ℕ) → h < 2 ^ 112 → IsIn p.cube h → f h ≡ Some p.value
 
--- the number with this digit put before its places below m
-abbrev pub at_place : Bool → ℕ → ℕ → ℕ
-at_place high m n = if high then n + 2 ^ m else n
+-- the number with this digit put before its bits below m
+abbrev pub with_top : Bool → ℕ → ℕ → ℕ
+with_top high m n = if high then n + 2 ^ m else n

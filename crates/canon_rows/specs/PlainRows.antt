@@ -1,4 +1,4 @@
--- rows as the recursion over the places makes them, on the places that are left
+-- rows as the recursion over the bits makes them, on the bits that are left
 use Rattle.std.specs.Prelude.{ℕ, Option, Some, None, ◌≡◌, ◌≢◌, ◌+◌, ◌^◌, ◌<◌, ◌⊎◌, List, [], ◌∷◌, ◌++◌, map, bit_and}
 use Rattle.std.proofs.Common.{zero, suc}
 use Rattle.canon_rows.specs.declared.Piece.{Piece}
@@ -12,7 +12,7 @@ pub record Plain : Type 0 where
 abbrev pub plain : Piece → Plain
 plain p = record { fixed = p.cube.fixed; bits = p.cube.bits; value = p.value }
 
--- a row of the half where the place of weight 2 ^ m is 0, or 1, as a row of the whole
+-- a row of the half where the bit of weight 2 ^ m is 0, or 1, as a row of the whole
 abbrev pub with_zero : ℕ → Plain → Plain
 with_zero m t = record { fixed = t.fixed + 2 ^ m; bits = t.bits; value = t.value }
 
@@ -23,12 +23,12 @@ with_one m t = record { fixed = t.fixed + 2 ^ m; bits = t.bits + 2 ^ m; value = 
 abbrev pub whole : ℕ → List Plain → List Plain → List Plain
 whole m low high = map (with_zero m) low ++ map (with_one m) high
 
--- where no place is left, a function has its value as its one row, or none
+-- where no bit is left, a function has its value as its one row, or none
 abbrev pub point : Option ℕ → List Plain
 point None = []
 point (Some v) = record { fixed = 0; bits = 0; value = v } ∷ []
 
--- equal halves are one, with `*` at the place; those that differ stand beside each other
+-- equal halves are one, with `*` at the bit; those that differ stand beside each other
 pub record Merges (m : ℕ) (low high rows : List Plain) : Type 0 where
   pub merged : ((low ≡ high) × (rows ≡ low)) ⊎ ((low ≢ high) × (rows ≡ whole m low high))
 
@@ -38,7 +38,7 @@ IsRowsOf zero f rows = rows ≡ point (f 0)
 IsRowsOf (suc m) f rows =
     (low : List Plain) × (high : List Plain) × IsRowsOf m f low × IsRowsOf m (λ n. f (n + 2 ^ m)) high × Merges m low high rows
 
--- a cube of the last m places
+-- a cube of the last m bits
 pub record IsWellFormed (m : ℕ) (t : Plain) : Type 0 where
   pub below : t.fixed < 2 ^ m
   pub digits : bit_and t.bits t.fixed ≡ t.bits

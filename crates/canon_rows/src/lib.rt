@@ -1,9 +1,9 @@
 //! The canonical rows of a function on packet headers that is given by pieces.
 //!
 //! A function gives some headers a value. Its rows are the disjoint ternary cubes that hold exactly
-//! these headers, cut only where the value depends on a bit: place `k` of a row is `*` exactly where
+//! these headers, cut only where the value depends on a bit: bit `k` of a row is `*` exactly where
 //! flipping bit `k` never changes the value, among all headers that agree with the row's earlier
-//! places. So one function has one list of rows, however its pieces were cut.
+//! bits. So one function has one list of rows, however its pieces were cut.
 //!
 //! The rows are the paths of the reduced ordered decision diagram of the function to its values, over
 //! the bits in header order, with a skipped bit as `*` (Bryant, "Graph-Based Algorithms for Boolean
@@ -23,13 +23,11 @@ mod halves;
 pub mod laws;
 pub mod recursion;
 mod table;
-#[cfg(test)]
-mod tests;
 
 use table::{number_of_pieces, rows_of};
 
-/// How many places a cube has.
-pub(crate) const PLACES: u32 = 112;
+/// How many bits a cube has.
+pub(crate) const BITS: u32 = 112;
 
 /// A cube with the value of its headers.
 #[derive(Clone, Copy, PartialEq, Eq, Debug)]
@@ -41,7 +39,7 @@ pub struct Piece {
 /// The rows of the function that gives a header the value of the first piece that holds it, and
 /// gives no value to a header that no piece holds.
 ///
-/// They come in order, each once and with its value: at the first place where two rows differ, the
+/// They come in order, each once and with its value: at the first bit where two rows differ, the
 /// one with 0 comes before the one with 1. Where pieces are disjoint, the function gives each header
 /// of a piece that piece's value.
 ///
@@ -52,6 +50,6 @@ pub fn canon(alloc: Global, pieces: &[Piece]) -> Result<Vec<Piece>, NoMemory>
     ensures apart { AllPairs AreApart pieces.now → All (HasValue (value_of pieces.now)) pieces.now }
 {
     let mut nodes = IndexSet::new(alloc);
-    let whole = number_of_pieces(alloc, &mut nodes, pieces.to_vec(alloc)?, PLACES)?;
-    rows_of(alloc, &nodes, whole, PLACES)
+    let whole = number_of_pieces(alloc, &mut nodes, pieces.to_vec(alloc)?, BITS)?;
+    rows_of(alloc, &nodes, whole, BITS)
 }

@@ -1,4 +1,4 @@
-//! The same rows by a plain recursion over the places, which compares whole lists of rows.
+//! The same rows by a plain recursion over the bits, which compares whole lists of rows.
 
 ghost use Rattle.std.specs.Prelude.{◌≡◌, ◌<◌, ◌≤◌, ◌^◌, ◌↔◌, All, IfOk, IsTrue, map};
 ghost use Rattle.hdr_bits.specs.Rows.{AreRows};
@@ -6,7 +6,7 @@ ghost use Rattle.canon_rows.specs.Pieces.{value_of, HasValue};
 ghost use Rattle.canon_rows.specs.PlainRows.{plain, IsRowsOf};
 
 use crate::halves::{half, is_split, joined};
-use crate::{PLACES, Piece};
+use crate::{BITS, Piece};
 use no_memory::NoMemory;
 use std::alloc::Global;
 
@@ -18,7 +18,7 @@ pub fn canon_by_recursion(alloc: Global, pieces: &[Piece]) -> Result<Vec<Piece>,
     ensures rows { IfOk result (λ rows. AreRows (value_of pieces.now) (map (λ p. p.cube) rows.items)) }
     ensures values { IfOk result (λ rows. All (HasValue (value_of pieces.now)) rows.items) }
 {
-    rows(alloc, pieces, PLACES)
+    rows(alloc, pieces, BITS)
 }
 
 // The rows on the numbers below 2 ^ width.
@@ -36,18 +36,18 @@ fn rows(alloc: Global, pieces: &[Piece], width: u32) -> Result<Vec<Piece>, NoMem
         alone.push(*first)?;
         return Ok(alone);
     }
-    let place = width - 1;
-    if !is_split(pieces, place) {
-        return rows(alloc, pieces, place);
+    let shift = width - 1;
+    if !is_split(pieces, shift) {
+        return rows(alloc, pieces, shift);
     }
-    let zeros = half(alloc, pieces, place, false)?;
-    let low = rows(alloc, &zeros, place)?;
-    let ones = half(alloc, pieces, place, true)?;
-    let high = rows(alloc, &ones, place)?;
+    let zeros = half(alloc, pieces, shift, false)?;
+    let low = rows(alloc, &zeros, shift)?;
+    let ones = half(alloc, pieces, shift, true)?;
+    let high = rows(alloc, &ones, shift)?;
     if is_same(&low, &high) {
         return Ok(low);
     }
-    joined(alloc, &low, &high, place)
+    joined(alloc, &low, &high, shift)
 }
 
 // Whether two lists of rows are equal.

@@ -10,7 +10,7 @@ use Rattle.std.proofs.lemmas.List.Elements.{All-append, All-weaker, All-nil, All
 use Rattle.std.proofs.lemmas.List.Kept.{AllPairs-cons}
 use Rattle.std.proofs.Math.Nat.{pow-le-pow_right}
 use Rattle.hdr_bits.specs.declared.cube.Cube.{Cube}
-use Rattle.hdr_bits.specs.Bits.{bit}
+use Rattle.hdr_bits.specs.Bits.{bit_of}
 use Rattle.hdr_bits.specs.CubeBits.{IsIn, IsStar}
 use Rattle.cube_alg.specs.declared.cut.Piece.{Piece}
 use Rattle.cube_alg.specs.Pieces.{value_of, AreApartPieces, IsCut, AddsCut}
@@ -21,11 +21,11 @@ use Rattle.cube_alg.proofs.SplitLemmas.{star_free, free_star}
 use Rattle.hdr_bits.proofs.Masks.{agrees_from_fixed}
 use Rattle.cube_alg.proofs.ValueLemmas.{option_or-none, value_of-append, value_none, value_one, value_stop, in_wider}
 
--- ---- the free place
--- place z - 16 is the first one where the cube narrows the node
+-- ---- the free bit
+-- bit z - 16 is the first one where the cube narrows the node
 pub record IsFirst (cube node : Cube) (z : ℕ) : Type 0 where
   pub room : 16 ≤ z
-  pub place : Narrows cube node (z - 16)
+  pub bit : Narrows cube node (z - 16)
   pub first : (i : ℕ) → i < z - 16 → Narrows cube node i → ⊥
 
 -- a number from 2 ^ j up to 2 ^ (j + 1) has the bit j
@@ -39,7 +39,7 @@ top_below x j a b =
       | inr l ↦ let p : 2 ^ 112 ≤ 2 ^ j = pow-le-pow_right {n = 2} (omega arith) l in absurd (omega arith)
     ]
 
--- a place of the cube alone is a bit of both masks' difference
+-- a bit of the cube alone is a bit of both masks' difference
 narrow_bit : (cube node : Cube) (i : ℕ) → Narrows cube node i → bit_at (bit_xor cube.fixed (bit_and cube.fixed node.fixed)) (111 - i) ≡ 1
 narrow_bit cube node i n =
     let u = bit_at_xor cube.fixed (bit_and cube.fixed node.fixed) (111 - i) in
@@ -48,8 +48,8 @@ narrow_bit cube node i n =
     let d = n.digit in
     omega (arith, u, v, z, d)
 
-pub first_place : (cube node : Cube) → 0 < bit_xor cube.fixed (bit_and cube.fixed node.fixed) → IsFirst cube node (count_leading_zeros 128 (bit_xor cube.fixed (bit_and cube.fixed node.fixed)))
-first_place cube node p =
+pub first_free : (cube node : Cube) → 0 < bit_xor cube.fixed (bit_and cube.fixed node.fixed) → IsFirst cube node (count_leading_zeros 128 (bit_xor cube.fixed (bit_and cube.fixed node.fixed)))
+first_free cube node p =
     let f = cube.fixed in
     let x = bit_xor f (bit_and f node.fixed) in
     let l : x < 2 ^ 112 = xor_lt 112 f (bit_and f node.fixed) cube.below (let y = and_le_l f node.fixed in let b = cube.below in omega (arith, y, b)) in
@@ -66,7 +66,7 @@ first_place cube node p =
     let q : 111 - (z - 16) ≡ j = omega arith in
     record {
       room = omega arith;
-      place = record {
+      bit = record {
         within = omega arith;
         star = free_star node (z - 16) (subst (λ k. bit_at node.fixed k ≡ 0) (sym q) g);
         digit = subst (λ k. bit_at f k ≡ 1) (sym q) w;
@@ -76,8 +76,8 @@ first_place cube node p =
 
 -- ---- parts of the two halves together
 pub record Halves (k : ℕ) (node low high : Cube) : Type 0 where
-  pub zero_side : (h : ℕ) → IsIn low h ↔ (IsIn node h × (bit h k ≡ 0))
-  pub one_side : (h : ℕ) → IsIn high h ↔ (IsIn node h × (bit h k ≡ 1))
+  pub zero_side : (h : ℕ) → IsIn low h ↔ (IsIn node h × (bit_of h k ≡ 0))
+  pub one_side : (h : ℕ) → IsIn high h ↔ (IsIn node h × (bit_of h k ≡ 1))
 
 pairs_nil : AllPairs AreApartPieces []
 pairs_nil i j d a b = absurd (omega arith)
@@ -103,11 +103,11 @@ cut_join k node low high pieces zeros ones first second s p q a b =
     record {
       inside = All-append P first second (All-weaker (λ x. (h : ℕ) → IsIn x.cube h → IsIn low h) P (λ x f h i. ((s.zero_side h).0 (f h i)).0) first a.inside) (All-weaker (λ x. (h : ℕ) → IsIn x.cube h → IsIn high h) P (λ x f h i. ((s.one_side h).0 (f h i)).0) second b.inside);
       apart = pairs_append first second a.apart b.apart (All-weaker (λ x. (h : ℕ) → IsIn x.cube h → IsIn low h) (λ x. All (AreApartPieces x) second) (λ x f. All-weaker (λ y. (h : ℕ) → IsIn y.cube h → IsIn high h) (AreApartPieces x) (λ y g h i j. low_not h (f h i) (g h j)) second b.inside) first a.inside);
-      exact = λ h m. value_of-append first second h ∙ elim (cases_eq (bit h k) 0) [
+      exact = λ h m. value_of-append first second h ∙ elim (cases_eq (bit_of h k) 0) [
         | inl e ↦ let i : IsIn low h = (s.zero_side h).1 (m, e) in
             let n : value_of second h ≡ None = value_none second h (All-weaker (λ y. (g : ℕ) → IsIn y.cube g → IsIn high g) (λ y. IsIn y.cube h → ⊥) (λ y f j. low_not h i (f h j)) second b.inside) in
             ap (λ z. option_or (value_of first h) z) n ∙ (option_or-none _ ∙ (a.exact h i ∙ p h i))
-        | inr e ↦ let i : IsIn high h = (s.one_side h).1 (m, (let l = bit_at-lt h (111 - k) in one_of (bit h k) l e)) in
+        | inr e ↦ let i : IsIn high h = (s.one_side h).1 (m, (let l = bit_at-lt h (111 - k) in one_of (bit_of h k) l e)) in
             let n : value_of first h ≡ None = value_none first h (All-weaker (λ y. (g : ℕ) → IsIn y.cube g → IsIn low g) (λ y. IsIn y.cube h → ⊥) (λ y f j. low_not h (f h j) i) first a.inside) in
             ap (λ z. option_or z (value_of second h)) n ∙ (b.exact h i ∙ q h i)
       ];
@@ -159,7 +159,7 @@ first_value node (p ∷ ps) first e a w h m =
     let w' : bit_and p.cube.fixed node.fixed ≡ p.cube.fixed = subst (λ q. bit_and q.cube.fixed node.fixed ≡ q.cube.fixed) s w in
     value_stop (p ∷ ps) 0 p h (omega arith) refl (in_wider p node h n w' m) ∙ ap (λ q. Some q.value) (sym s)
 
-pub split_halves : (k : ℕ) (node : Cube) (r : Cube × Cube) → ((h : ℕ) → IsIn r.0 h ↔ (IsIn node h × (bit h k ≡ 0))) → ((h : ℕ) → IsIn r.1 h ↔ (IsIn node h × (bit h k ≡ 1))) → Halves k node r.0 r.1
+pub split_halves : (k : ℕ) (node : Cube) (r : Cube × Cube) → ((h : ℕ) → IsIn r.0 h ↔ (IsIn node h × (bit_of h k ≡ 0))) → ((h : ℕ) → IsIn r.1 h ↔ (IsIn node h × (bit_of h k ≡ 1))) → Halves k node r.0 r.1
 split_halves k node r a b = record { zero_side = a; one_side = b }
 
 -- the cube of all headers has each

@@ -4,3 +4,4 @@ pub mod ValueLemmas
 pub mod CutLemmas
 pub mod RestLemmas
 pub mod StampLemmas
+pub mod OnCubeLemmas

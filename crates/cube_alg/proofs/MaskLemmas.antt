@@ -70,7 +70,7 @@ unfolding greatest
 greatest_holds b =
     in_from_mask b (greatest b) (same_from_bits _ _ (λ i. let x = bit_at_and (bit_or b.bits (bit_xor (2 ^ 112 - 1) b.fixed)) b.fixed i in let y = bit_at_or b.bits (bit_xor (2 ^ 112 - 1) b.fixed) i in let z = bit_at_xor (2 ^ 112 - 1) b.fixed i in let u = bit_at_and b.bits b.fixed i in let e = ap (λ n. bit_at n i) b.digits in let o = bit_at_ones 112 i in let v = bit_at_above b.fixed 112 i b.below in grind (arith, x, y, z, u, e, o, v, bit_at-lt b.fixed i)))
 
--- where each header of b is in a, the digits of a stand at places where b has digits
+-- where each header of b is in a, the digits of a stand at bits where b has digits
 pub wider_of_inside : (a b : Cube) → IsInside b a → bit_and a.fixed b.fixed ≡ a.fixed
 wider_of_inside a b f =
     let p = mask_from_in a b.bits (f b.bits (least_holds b)) in

@@ -8,13 +8,14 @@ use Rattle.std.proofs.lemmas.List.{append_assoc, append-nil}
 use Rattle.std.proofs.lemmas.List.Elements.{All-nil, All-cons, All-head, All-tail, All-weaker, All-contains_itself}
 use Rattle.std.proofs.lemmas.List.Kept.{AllPairs-cons}
 use Rattle.hdr_bits.specs.declared.cube.Cube.{Cube}
-use Rattle.hdr_bits.specs.Bits.{bit}
-use Rattle.hdr_bits.specs.CubeBits.{place, IsIn, IsStar}
+use Rattle.hdr_bits.specs.Bits.{bit_of}
+use Rattle.hdr_bits.specs.CubeBits.{digit_at, IsIn, IsStar}
 use Rattle.hdr_bits.proofs.Masks.{in_from_mask, mask_from_in, fixed_from_agrees}
 use Rattle.cube_alg.specs.Pairs.{Meets, Overlap, AreApart, IsInside, HasDigit}
-use Rattle.cube_alg.specs.Rest.{Narrows, IsPartAt, AreParts, AreRest, AddsRest, AddsNarrowing, Extends}
+use Rattle.hdr_bits.specs.Lists.{Extends}
+use Rattle.cube_alg.specs.Rest.{Narrows, IsPartAt, AreParts, AreRest, AddsRest, AddsNarrowing}
 use Rattle.cube_alg.proofs.MaskLemmas.{meets_of_both, meets_of_overlap, inside_of_wider}
-use Rattle.cube_alg.proofs.SplitLemmas.{star_free, place_digit, place_star}
+use Rattle.cube_alg.proofs.SplitLemmas.{star_free, digit_there, digit_star}
 use Rattle.cube_alg.proofs.CutLemmas.{Halves, one_of}
 
 pairs_nil : AllPairs AreApart []
@@ -66,33 +67,33 @@ rest_none a b o w =
 zero_of : (n : ℕ) → n < 2 → (n ≡ 1 → ⊥) → n ≡ 0
 zero_of n l e = omega (arith, e)
 
-pub step_one : (k : ℕ) (a b low high : Cube) → k < 112 → Halves k a low high → bit b.fixed k ≡ 1 → bit b.bits k ≡ 1 → Step a b low high
+pub step_one : (k : ℕ) (a b low high : Cube) → k < 112 → Halves k a low high → bit_of b.fixed k ≡ 1 → bit_of b.bits k ≡ 1 → Step a b low high
 step_one k a b low high l s f d =
-    let one : (h : ℕ) → IsIn b h → bit h k ≡ 1 = λ h i. fixed_from_agrees b h k (i k l) f ∙ d in
+    let one : (h : ℕ) → IsIn b h → bit_of h k ≡ 1 = λ h i. fixed_from_agrees b h k (i k l) f ∙ d in
     record {
       part = λ h i. ((s.zero_side h).0 i).0;
       other = λ h i. ((s.one_side h).0 i).0;
       outside = λ h i j. let x = ((s.zero_side h).0 i).1 in let y = one h j in absurd (omega (arith, x, y));
       apart = λ h i j. let x = ((s.zero_side h).0 i).1 in let y = ((s.one_side h).0 j).1 in absurd (omega (arith, x, y));
-      either = λ h i. elim (cases_eq (bit h k) 0) [
+      either = λ h i. elim (cases_eq (bit_of h k) 0) [
         | inl z ↦ inl ((s.zero_side h).1 (i, z))
-        | inr z ↦ inr ((s.one_side h).1 (i, one_of (bit h k) (bit_at-lt h (111 - k)) z))
+        | inr z ↦ inr ((s.one_side h).1 (i, one_of (bit_of h k) (bit_at-lt h (111 - k)) z))
       ];
       keeps = λ h i j. (s.one_side h).1 (i, one h j);
     }
 
-pub step_zero : (k : ℕ) (a b low high : Cube) → k < 112 → Halves k a low high → bit b.fixed k ≡ 1 → (bit b.bits k ≡ 1 → ⊥) → Step a b high low
+pub step_zero : (k : ℕ) (a b low high : Cube) → k < 112 → Halves k a low high → bit_of b.fixed k ≡ 1 → (bit_of b.bits k ≡ 1 → ⊥) → Step a b high low
 step_zero k a b low high l s f n =
-    let d : bit b.bits k ≡ 0 = (let q = bit_at-lt b.bits (111 - k) in zero_of (bit b.bits k) q n) in
-    let zero_bit : (h : ℕ) → IsIn b h → bit h k ≡ 0 = λ h i. fixed_from_agrees b h k (i k l) f ∙ d in
+    let d : bit_of b.bits k ≡ 0 = (let q = bit_at-lt b.bits (111 - k) in zero_of (bit_of b.bits k) q n) in
+    let zero_bit : (h : ℕ) → IsIn b h → bit_of h k ≡ 0 = λ h i. fixed_from_agrees b h k (i k l) f ∙ d in
     record {
       part = λ h i. ((s.one_side h).0 i).0;
       other = λ h i. ((s.zero_side h).0 i).0;
       outside = λ h i j. let x = ((s.one_side h).0 i).1 in let y = zero_bit h j in absurd (omega (arith, x, y));
       apart = λ h i j. let x = ((s.one_side h).0 i).1 in let y = ((s.zero_side h).0 j).1 in absurd (omega (arith, x, y));
-      either = λ h i. elim (cases_eq (bit h k) 0) [
+      either = λ h i. elim (cases_eq (bit_of h k) 0) [
         | inl z ↦ inr ((s.zero_side h).1 (i, z))
-        | inr z ↦ inl ((s.one_side h).1 (i, one_of (bit h k) (bit_at-lt h (111 - k)) z))
+        | inr z ↦ inl ((s.one_side h).1 (i, one_of (bit_of h k) (bit_at-lt h (111 - k)) z))
       ];
       keeps = λ h i j. (s.zero_side h).1 (i, zero_bit h j);
     }
@@ -111,21 +112,21 @@ member_cases : (x y : ℕ) (xs : List ℕ) → Contains (x ∷ xs) y → (y ≡ 
 member_cases x y xs (zero, l, e) = inl (sym e)
 member_cases x y xs (suc k, l, e) = inr (k, omega (arith, l), e)
 
-no_some : (k x : ℕ) (c : Cube) → place c k ≡ Some x → IsStar c k → ⊥
+no_some : (k x : ℕ) (c : Cube) → digit_at c k ≡ Some x → IsStar c k → ⊥
 no_some k x c e s = not_some x (subst IsNone e s)
   where
     not_some : (x : ℕ) → IsNone (Some x) → ⊥
     not_some x n = cc
 
--- what b narrows in the kept half: what it narrows in the whole, but for the place of the cut
+-- what b narrows in the kept half: what it narrows in the whole, but for the bit of the cut
 pub record Cut (a b : Cube) (k : ℕ) (kept : Cube) : Type 0 where
-  pub place : Narrows b a k
+  pub narrows : Narrows b a k
   pub first : (i : ℕ) → i < k → Narrows b a i → ⊥
-  pub digit : HasDigit k (bit b.bits k) a kept
+  pub digit : HasDigit k (bit_of b.bits k) a kept
 
 narrows_whole : (a b kept : Cube) (k i : ℕ) → Cut a b k kept → Narrows b kept i → Narrows b a i × (i ≢ k)
 narrows_whole a b kept k i c n =
-    let other : i ≢ k = λ e. no_some k (bit b.bits k) kept c.digit.there (subst (IsStar kept) e n.star) in
+    let other : i ≢ k = λ e. no_some k (bit_of b.bits k) kept c.digit.there (subst (IsStar kept) e n.star) in
     (record { within = n.within; star = subst IsNone (c.digit.others i n.within other) n.star; digit = n.digit }, other)
 
 narrows_kept : (a b kept : Cube) (k i : ℕ) → Cut a b k kept → Narrows b a i → i ≢ k → Narrows b kept i
@@ -141,20 +142,20 @@ comes_behind a b kept k i c n =
       | inr l ↦ omega (arith, l, d)
     ]
 
-or_there : (a b kept : Cube) (k : ℕ) → Cut a b k kept → option_or (place kept k) (place b k) ≡ option_or (place a k) (place b k)
+or_there : (a b kept : Cube) (k : ℕ) → Cut a b k kept → option_or (digit_at kept k) (digit_at b k) ≡ option_or (digit_at a k) (digit_at b k)
 or_there a b kept k c =
-    let s : place a k ≡ None = none_place a k c.place.star in
-    let d : place b k ≡ Some (bit b.bits k) = place_digit b k (bit b.bits k) c.place.digit refl in
-    ap (λ x. option_or x (place b k)) c.digit.there ∙ sym (ap (λ x. option_or x (place b k)) s ∙ d)
+    let s : digit_at a k ≡ None = none_digit a k c.narrows.star in
+    let d : digit_at b k ≡ Some (bit_of b.bits k) = digit_there b k (bit_of b.bits k) c.narrows.digit refl in
+    ap (λ x. option_or x (digit_at b k)) c.digit.there ∙ sym (ap (λ x. option_or x (digit_at b k)) s ∙ d)
   where
-    none_place : (a : Cube) (k : ℕ) → IsStar a k → place a k ≡ None
-    none_place a k s = none_is (place a k) s
+    none_digit : (a : Cube) (k : ℕ) → IsStar a k → digit_at a k ≡ None
+    none_digit a k s = none_is (digit_at a k) s
       where
         none_is : (o : Option ℕ) → IsNone o → o ≡ None
         none_is None s = refl
         none_is (Some x) s = absurd cc
 
--- a place that comes behind the cut
+-- a bit that comes behind the cut
 abbrev IsBehind : ℕ → ℕ → Type 0
 IsBehind k i = (k < i) × (i < 112)
 
@@ -162,8 +163,8 @@ part_of_whole : (a b kept : Cube) (k i : ℕ) (c : Cube) → Cut a b k kept → 
 part_of_whole a b kept k i c s l p =
     record {
       before = λ j m. elim (cases_eq j k) [
-        | inl e ↦ p.before j m ∙ subst (λ x. option_or (place kept x) (place b x) ≡ option_or (place a x) (place b x)) (sym e) (or_there a b kept k s)
-        | inr n ↦ p.before j m ∙ ap (λ x. option_or x (place b j)) (s.digit.others j (let w = l.1 in omega (arith, w, m)) n)
+        | inl e ↦ p.before j m ∙ subst (λ x. option_or (digit_at kept x) (digit_at b x) ≡ option_or (digit_at a x) (digit_at b x)) (sym e) (or_there a b kept k s)
+        | inr n ↦ p.before j m ∙ ap (λ x. option_or x (digit_at b j)) (s.digit.others j (let w = l.1 in omega (arith, w, m)) n)
       ];
       differs = p.differs;
       behind = λ j m b2. p.behind j m b2 ∙ s.digit.others j b2 (λ e. let w = l.0 in omega (arith, e, m, w));
@@ -180,14 +181,14 @@ first_some : (o q : Option ℕ) → (o ≡ None → q ≡ None) → o ≡ option
 first_some None q f = sym (f refl)
 first_some (Some x) q f = refl
 
-not_narrowed : (a b : Cube) (i : ℕ) → i < 112 → (Narrows b a i → ⊥) → place a i ≡ option_or (place a i) (place b i)
+not_narrowed : (a b : Cube) (i : ℕ) → i < 112 → (Narrows b a i → ⊥) → digit_at a i ≡ option_or (digit_at a i) (digit_at b i)
 not_narrowed a b i w f =
-    first_some (place a i) (place b i) (λ e. elim (cases_eq (bit b.fixed i) 0) [
-      | inl z ↦ place_star b i z
-      | inr n ↦ absurd (f (record { within = w; star = subst IsNone (sym e) refl; digit = one_of (bit b.fixed i) (bit_at-lt b.fixed (111 - i)) n }))
+    first_some (digit_at a i) (digit_at b i) (λ e. elim (cases_eq (bit_of b.fixed i) 0) [
+      | inl z ↦ digit_star b i z
+      | inr n ↦ absurd (f (record { within = w; star = subst IsNone (sym e) refl; digit = one_of (bit_of b.fixed i) (bit_at-lt b.fixed (111 - i)) n }))
     ])
 
-part_here : (a b taken : Cube) (k : ℕ) → Narrows b a k → ((i : ℕ) → i < k → Narrows b a i → ⊥) → HasDigit k (1 - bit b.bits k) a taken → IsPartAt a b k taken
+part_here : (a b taken : Cube) (k : ℕ) → Narrows b a k → ((i : ℕ) → i < k → Narrows b a i → ⊥) → HasDigit k (1 - bit_of b.bits k) a taken → IsPartAt a b k taken
 part_here a b taken k n f d =
     record {
       before = λ i l. let w : i < 112 = (let x = n.within in omega (arith, x, l)) in d.others i w (λ e. omega (arith, e, l)) ∙ not_narrowed a b i w (f i l);
@@ -195,23 +196,23 @@ part_here a b taken k n f d =
       behind = λ i l m. d.others i m (λ e. omega (arith, e, l));
     }
 
-parts_step : (a b taken kept : Cube) (k : ℕ) (cs : List Cube) → Cut a b k kept → HasDigit k (1 - bit b.bits k) a taken → AreParts kept b cs → AreParts a b (taken ∷ cs)
+parts_step : (a b taken kept : Cube) (k : ℕ) (cs : List Cube) → Cut a b k kept → HasDigit k (1 - bit_of b.bits k) a taken → AreParts kept b cs → AreParts a b (taken ∷ cs)
 parts_step a b taken kept k cs s d r =
-    let behind : All (IsBehind k) r.places = All-weaker (Contains r.places) (IsBehind k) (λ i m. let n = (r.narrowed i).0 m in (comes_behind a b kept k i s n, n.within)) r.places (All-contains_itself r.places) in
+    let behind : All (IsBehind k) r.bits = All-weaker (Contains r.bits) (IsBehind k) (λ i m. let n = (r.narrowed i).0 m in (comes_behind a b kept k i s n, n.within)) r.bits (All-contains_itself r.bits) in
     record {
-      places = k ∷ r.places;
+      bits = k ∷ r.bits;
       narrowed = λ i. (
-        λ m. elim (member_cases k i r.places m) [
-          | inl e ↦ subst (Narrows b a) (sym e) s.place
+        λ m. elim (member_cases k i r.bits m) [
+          | inl e ↦ subst (Narrows b a) (sym e) s.narrows
           | inr t ↦ (narrows_whole a b kept k i s ((r.narrowed i).0 t)).0
         ],
         λ n. elim (cases_eq i k) [
-          | inl e ↦ subst (Contains (k ∷ r.places)) (sym e) (has_member k r.places)
-          | inr other ↦ more_members k i r.places ((r.narrowed i).1 (narrows_kept a b kept k i s n other))
+          | inl e ↦ subst (Contains (k ∷ r.bits)) (sym e) (has_member k r.bits)
+          | inr other ↦ more_members k i r.bits ((r.narrowed i).1 (narrows_kept a b kept k i s n other))
         ],
       );
-      rising = AllPairs-cons (λ i j. i < j) k r.places (All-weaker (IsBehind k) (λ i. k < i) (λ i l. l.0) r.places behind) r.rising;
-      parts = (part_here a b taken k s.place s.first d, parts_of_whole a b kept k r.places cs s behind r.parts);
+      rising = AllPairs-cons (λ i j. i < j) k r.bits (All-weaker (IsBehind k) (λ i. k < i) (λ i l. l.0) r.bits behind) r.rising;
+      parts = (part_here a b taken k s.narrows s.first d, parts_of_whole a b kept k r.bits cs s behind r.parts);
     }
 
 no_member : (x : ℕ) → Contains [] x → ⊥
@@ -228,7 +229,7 @@ no_narrow a b k e n =
 parts_none : (a b : Cube) → bit_and b.fixed a.fixed ≡ b.fixed → AreParts a b []
 parts_none a b w =
     record {
-      places = [];
+      bits = [];
       narrowed = λ k. (λ m. absurd (no_member k m), λ n. absurd (no_narrow a b k w n));
       rising = λ i j d l m. absurd (omega arith);
       parts = tt;
@@ -238,22 +239,22 @@ parts_none a b w =
 pub record Turn (a b taken kept : Cube) (k : ℕ) : Type 0 where
   pub step : Step a b taken kept
   pub cut : Cut a b k kept
-  pub taken_digit : HasDigit k (1 - bit b.bits k) a taken
+  pub taken_digit : HasDigit k (1 - bit_of b.bits k) a taken
 
-pub turn_one : (k : ℕ) (a b low high : Cube) → Narrows b a k → ((i : ℕ) → i < k → Narrows b a i → ⊥) → Halves k a low high → HasDigit k 0 a low → HasDigit k 1 a high → bit b.bits k ≡ 1 → Turn a b low high k
+pub turn_one : (k : ℕ) (a b low high : Cube) → Narrows b a k → ((i : ℕ) → i < k → Narrows b a i → ⊥) → Halves k a low high → HasDigit k 0 a low → HasDigit k 1 a high → bit_of b.bits k ≡ 1 → Turn a b low high k
 turn_one k a b low high n f s z o e =
     record {
       step = step_one k a b low high n.within s n.digit e;
-      cut = record { place = n; first = f; digit = subst (λ x. HasDigit k x a high) (sym e) o };
+      cut = record { narrows = n; first = f; digit = subst (λ x. HasDigit k x a high) (sym e) o };
       taken_digit = subst (λ x. HasDigit k x a low) (omega (arith, e)) z;
     }
 
-pub turn_zero : (k : ℕ) (a b low high : Cube) → Narrows b a k → ((i : ℕ) → i < k → Narrows b a i → ⊥) → Halves k a low high → HasDigit k 0 a low → HasDigit k 1 a high → (bit b.bits k ≡ 1 → ⊥) → Turn a b high low k
+pub turn_zero : (k : ℕ) (a b low high : Cube) → Narrows b a k → ((i : ℕ) → i < k → Narrows b a i → ⊥) → Halves k a low high → HasDigit k 0 a low → HasDigit k 1 a high → (bit_of b.bits k ≡ 1 → ⊥) → Turn a b high low k
 turn_zero k a b low high n f s z o d =
-    let e : bit b.bits k ≡ 0 = (let q = bit_at-lt b.bits (111 - k) in zero_of (bit b.bits k) q d) in
+    let e : bit_of b.bits k ≡ 0 = (let q = bit_at-lt b.bits (111 - k) in zero_of (bit_of b.bits k) q d) in
     record {
       step = step_zero k a b low high n.within s n.digit d;
-      cut = record { place = n; first = f; digit = subst (λ x. HasDigit k x a low) (sym e) z };
+      cut = record { narrows = n; first = f; digit = subst (λ x. HasDigit k x a low) (sym e) z };
       taken_digit = subst (λ x. HasDigit k x a high) (omega (arith, e)) o;
     }
 

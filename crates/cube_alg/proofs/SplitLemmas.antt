@@ -5,8 +5,8 @@ use Rattle.std.proofs.lemmas.Bool.Decides.{nat_tests}
 use Rattle.std.proofs.lemmas.Nat.{or_disjoint, one_shl, pow_below, or_lt}
 use Rattle.std.proofs.lemmas.Nat.Bits.{bit_at_and, bit_at-lt, bit_at_set_same, bit_at_set_other, same_from_bits, and_pow}
 use Rattle.hdr_bits.specs.declared.cube.Cube.{Cube}
-use Rattle.hdr_bits.specs.Bits.{bit}
-use Rattle.hdr_bits.specs.CubeBits.{place, IsStar}
+use Rattle.hdr_bits.specs.Bits.{bit_of}
+use Rattle.hdr_bits.specs.CubeBits.{digit_at, IsStar}
 use Rattle.cube_alg.specs.Pairs.{HasDigit}
 
 -- g is f with bit p set
@@ -45,7 +45,7 @@ pub set_and_one : (p f g b c h : ℕ) → IsSet p f g → IsSet p b c → bit_at
 set_and_one p f g b c h s r z d e t =
     same_from_bits _ _ (by_bit p (λ i. bit_at (bit_and h g) i ≡ bit_at c i) (let x = bit_at_and h g p in let o = s.same in let q = r.same in omega (arith, x, o, q, t)) (λ i n. let x = bit_at_and h f i in let y = bit_at_and h g i in let w = ap (λ m. bit_at m i) e in let o = s.other i n in let q = r.other i n in omega (arith, x, y, w, o, q)))
 
--- the digits of the halves stand at their places
+-- the digits of the halves stand at their bits
 pub digits_set : (p f g b : ℕ) → IsSet p f g → bit_at f p ≡ 0 → bit_and b f ≡ b → bit_and b g ≡ b
 digits_set p f g b s z d =
     set_and p f g b b s z d d (let y = bit_at_and b f p in let w = ap (λ n. bit_at n p) d in omega (arith, y, w))
@@ -66,7 +66,7 @@ or_below n p l b =
     let q : 2 ^ p < 2 ^ 112 = pow_below p 112 l in
     or_lt 112 n _ b (omega (arith, one_shl p 128 (omega arith)))
 
--- ---- places
+-- ---- bits
 none_of : (t : Bool) (b : ℕ) → IsNone (if t then None else Some b) → t ≡ true
 none_of true b h = refl
 none_of false b h = absurd cc
@@ -75,35 +75,35 @@ none_true : (t : Bool) (b : ℕ) → t ≡ true → IsNone (if t then None else 
 none_true true b e = refl
 none_true false b e = absurd cc
 
-pub star_free : (c : Cube) (k : ℕ) → IsStar c k → bit c.fixed k ≡ 0
-star_free c k s = let t = none_of (bit c.fixed k == 0) (bit c.bits k) s in grind (arith, nat_tests)
+pub star_free : (c : Cube) (k : ℕ) → IsStar c k → bit_of c.fixed k ≡ 0
+star_free c k s = let t = none_of (bit_of c.fixed k == 0) (bit_of c.bits k) s in grind (arith, nat_tests)
 
-pub free_star : (c : Cube) (k : ℕ) → bit c.fixed k ≡ 0 → IsStar c k
-free_star c k z = none_true (bit c.fixed k == 0) (bit c.bits k) (grind (arith, nat_tests))
+pub free_star : (c : Cube) (k : ℕ) → bit_of c.fixed k ≡ 0 → IsStar c k
+free_star c k z = none_true (bit_of c.fixed k == 0) (bit_of c.bits k) (grind (arith, nat_tests))
 
-pub place_same : (c d : Cube) (i : ℕ) → bit d.fixed i ≡ bit c.fixed i → bit d.bits i ≡ bit c.bits i → place d i ≡ place c i
-place_same c d i e g = λ t. if e t == 0 then None else Some (g t)
+pub digit_same : (c d : Cube) (i : ℕ) → bit_of d.fixed i ≡ bit_of c.fixed i → bit_of d.bits i ≡ bit_of c.bits i → digit_at d i ≡ digit_at c i
+digit_same c d i e g = λ t. if e t == 0 then None else Some (g t)
 
-pub place_digit : (d : Cube) (k x : ℕ) → bit d.fixed k ≡ 1 → bit d.bits k ≡ x → place d k ≡ Some x
-place_digit d k x e g = λ t. if e t == 0 then None else Some (g t)
+pub digit_there : (d : Cube) (k x : ℕ) → bit_of d.fixed k ≡ 1 → bit_of d.bits k ≡ x → digit_at d k ≡ Some x
+digit_there d k x e g = λ t. if e t == 0 then None else Some (g t)
 
-pub place_star : (d : Cube) (k : ℕ) → bit d.fixed k ≡ 0 → place d k ≡ None
-place_star d k e = λ t. if e t == 0 then None else Some (bit d.bits k)
+pub digit_star : (d : Cube) (k : ℕ) → bit_of d.fixed k ≡ 0 → digit_at d k ≡ None
+digit_star d k e = λ t. if e t == 0 then None else Some (bit_of d.bits k)
 
--- the digit of a free place is 0
-pub free_zero : (c : Cube) (k : ℕ) → bit c.fixed k ≡ 0 → bit c.bits k ≡ 0
+-- the digit of a free bit is 0
+pub free_zero : (c : Cube) (k : ℕ) → bit_of c.fixed k ≡ 0 → bit_of c.bits k ≡ 0
 free_zero c k z = let x = bit_at_and c.bits c.fixed (111 - k) in let e = ap (λ n. bit_at n (111 - k)) c.digits in omega (arith, x, e, z)
 
-pub has_zero : (k : ℕ) (c d : Cube) → k < 112 → bit c.fixed k ≡ 0 → IsSet (111 - k) c.fixed d.fixed → d.bits ≡ c.bits → HasDigit k 0 c d
+pub has_zero : (k : ℕ) (c d : Cube) → k < 112 → bit_of c.fixed k ≡ 0 → IsSet (111 - k) c.fixed d.fixed → d.bits ≡ c.bits → HasDigit k 0 c d
 has_zero k c d l z s e =
     record {
-      there = place_digit d k 0 s.same (ap (λ n. bit n k) e ∙ free_zero c k z);
-      others = λ i m n. place_same c d i (s.other (111 - i) (λ q. n (omega (arith, q)))) (ap (λ x. bit x i) e);
+      there = digit_there d k 0 s.same (ap (λ n. bit_of n k) e ∙ free_zero c k z);
+      others = λ i m n. digit_same c d i (s.other (111 - i) (λ q. n (omega (arith, q)))) (ap (λ x. bit_of x i) e);
     }
 
 pub has_one : (k : ℕ) (c d : Cube) → k < 112 → IsSet (111 - k) c.fixed d.fixed → IsSet (111 - k) c.bits d.bits → HasDigit k 1 c d
 has_one k c d l s r =
     record {
-      there = place_digit d k 1 s.same r.same;
-      others = λ i m n. place_same c d i (s.other (111 - i) (λ q. n (omega (arith, q)))) (r.other (111 - i) (λ q. n (omega (arith, q))));
+      there = digit_there d k 1 s.same r.same;
+      others = λ i m n. digit_same c d i (s.other (111 - i) (λ q. n (omega (arith, q)))) (r.other (111 - i) (λ q. n (omega (arith, q))));
     }

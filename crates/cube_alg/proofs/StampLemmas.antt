@@ -10,7 +10,7 @@ use Rattle.std.proofs.Math.Nat.{pow-le-pow_right, mul-le-mul_right}
 use Rattle.hdr_bits.specs.declared.header.Header.{Header}
 use Rattle.hdr_bits.specs.declared.cube.Cube.{Cube}
 use Rattle.hdr_bits.specs.HeaderBits.{number, header_of, IsHeader}
-use Rattle.hdr_bits.specs.Bits.{bit}
+use Rattle.hdr_bits.specs.Bits.{bit_of}
 use Rattle.hdr_bits.specs.CubeBits.{IsIn, IsStar}
 use Rattle.cube_alg.proofs.SplitLemmas.{star_free, free_star}
 use Rattle.hdr_bits.proofs.Masks.{in_from_mask, mask_from_in}
@@ -62,14 +62,14 @@ replaced_field a w hi f v lo bl bf bv = record {
       grind (arith, m1, x1, x2, y1, y2);
 }
 
--- the same, with all replaced places from lo up to hi
-pub record IsReplacedIn (lo hi places digits m n : ℕ) : Type 0 where
-  pub replaced : IsReplaced places digits m n
-  pub low : (i : ℕ) → bit_at places i ≡ 1 → lo ≤ i
-  pub high : (i : ℕ) → bit_at places i ≡ 1 → i < hi
+-- the same, with all replaced bits from lo up to hi
+pub record IsReplacedIn (lo hi mask digits m n : ℕ) : Type 0 where
+  pub replaced : IsReplaced mask digits m n
+  pub low : (i : ℕ) → bit_at mask i ≡ 1 → lo ≤ i
+  pub high : (i : ℕ) → bit_at mask i ≡ 1 → i < hi
 
-field_step : (a w : ℕ) (o : Option ℕ) (places digits hi f lo : ℕ) → IsFieldAt a w o places digits → lo < 2 ^ a → f < 2 ^ w → IsReplacedIn a (a + w) places digits ((hi * 2 ^ w + f) * 2 ^ a + lo) ((hi * 2 ^ w + unwrap_or o f) * 2 ^ a + lo)
-field_step a w None places digits hi f lo (p, d) bl bf =
+field_step : (a w : ℕ) (o : Option ℕ) (mask digits hi f lo : ℕ) → IsFieldAt a w o mask digits → lo < 2 ^ a → f < 2 ^ w → IsReplacedIn a (a + w) mask digits ((hi * 2 ^ w + f) * 2 ^ a + lo) ((hi * 2 ^ w + unwrap_or o f) * 2 ^ a + lo)
+field_step a w None mask digits hi f lo (p, d) bl bf =
     record {
       replaced = record {
         within = λ i. let x = ap (λ n. bit_at n i) d in let z = bit_at-zero i in omega (arith, x, z);
@@ -79,7 +79,7 @@ field_step a w None places digits hi f lo (p, d) bl bf =
       low = λ i e. let x = ap (λ n. bit_at n i) p in let z = bit_at-zero i in absurd (omega (arith, x, z, e));
       high = λ i e. let x = ap (λ n. bit_at n i) p in let z = bit_at-zero i in absurd (omega (arith, x, z, e));
     }
-field_step a w (Some v) places digits hi f lo (b, p, d) bl bf =
+field_step a w (Some v) mask digits hi f lo (b, p, d) bl bf =
     let m = (hi * 2 ^ w + f) * 2 ^ a + lo in
     let n = (hi * 2 ^ w + v) * 2 ^ a + lo in
     let r = replaced_field a w hi f v lo bl bf b in
@@ -89,7 +89,7 @@ field_step a w (Some v) places digits hi f lo (b, p, d) bl bf =
       high = λ i e. let x = ap (λ n. bit_at n i) p in let y = bit_at_mask_above a (a + w) i in grind (arith, x, y, e);
     }
 
--- first the one and then the other, at lower places
+-- first the one and then the other, at lower bits
 both_steps : (a b c e p d q f m n k : ℕ) → IsReplacedIn a b p d m n → IsReplacedIn c e q f n k → e ≤ a → c ≤ a → e ≤ b → IsReplacedIn c b (bit_or p q) (bit_or d f) m k
 both_steps a b c e p d q f m n k r s l l2 l3 =
     let apart : (i : ℕ) → bit_at p i ≡ 1 → bit_at q i ≡ 1 → ⊥ = λ i x y. let u = r.low i x in let v = s.high i y in omega (arith, u, v, l) in
@@ -147,10 +147,10 @@ field_below a w (Some v) p d (b, e, g) l =
     let x : 2 ^ (a + w) ≤ 2 ^ 112 = pow-le-pow_right {n = 2} (omega arith) l in
     omega (arith, e, x, two_pow a)
 
--- digits within their places
-digits_fit : (places digits : ℕ) → ((i : ℕ) → bit_at digits i ≤ bit_at places i) → bit_and digits places ≡ digits
-digits_fit places digits f =
-    same_from_bits _ _ (λ i. let x = bit_at_and digits places i in let y = f i in omega (arith, x, y))
+-- digits within their bits
+digits_fit : (mask digits : ℕ) → ((i : ℕ) → bit_at digits i ≤ bit_at mask i) → bit_and digits mask ≡ digits
+digits_fit mask digits f =
+    same_from_bits _ _ (λ i. let x = bit_at_and digits mask i in let y = f i in omega (arith, x, y))
 
 abbrev zeros : Header
 zeros = header_of 0
@@ -187,7 +187,7 @@ writes s p q r t d e f g x =
     }
 
 -- ---- cubes seen through a replacement
--- a mask without the places of another
+-- a mask without the bits of another
 abbrev pub without : ℕ → ℕ → ℕ
 without x m = bit_and x (bit_not w128 m)
 
@@ -216,15 +216,15 @@ in_mask : (f b i : ℕ) → bit_and b f ≡ b → bit_at b i ≤ bit_at f i
 in_mask f b i e = let x = bit_at_and b f i in let y = ap (λ n. bit_at n i) e in omega (arith, x, y)
 
 -- c seen from before the replacement is d
-pub record SeenFrom (c : Cube) (places fixed bits : ℕ) : Type 0 where
-  pub fixed_there : IsWithout c.fixed places fixed
-  pub bits_there : IsWithout c.bits places bits
+pub record SeenFrom (c : Cube) (mask fixed bits : ℕ) : Type 0 where
+  pub fixed_there : IsWithout c.fixed mask fixed
+  pub bits_there : IsWithout c.bits mask bits
 
-pub seen : (c : Cube) (places : ℕ) → places < 2 ^ 112 → SeenFrom c places (without c.fixed places) (without c.bits places)
-seen c places b = record { fixed_there = is_without c.fixed places c.below b; bits_there = is_without c.bits places (bits_below c) b }
+pub seen : (c : Cube) (mask : ℕ) → mask < 2 ^ 112 → SeenFrom c mask (without c.fixed mask) (without c.bits mask)
+seen c mask b = record { fixed_there = is_without c.fixed mask c.below b; bits_there = is_without c.bits mask (bits_below c) b }
 
-pub seen_digits : (c : Cube) (places fixed bits : ℕ) → SeenFrom c places fixed bits → bit_and bits fixed ≡ bits
-seen_digits c places fixed bits s =
+pub seen_digits : (c : Cube) (mask fixed bits : ℕ) → SeenFrom c mask fixed bits → bit_and bits fixed ≡ bits
+seen_digits c mask fixed bits s =
     same_from_bits _ _ (λ i.
     let x1 = in_mask c.fixed c.bits i c.digits in
     let x2 = bit_at_and bits fixed i in
@@ -232,10 +232,10 @@ seen_digits c places fixed bits s =
     let x4 = s.fixed_there.gone i in
     let x5 = s.bits_there.kept i in
     let x6 = s.bits_there.gone i in
-    grind (arith, x1, x2, x3, x4, x5, x6, bit_at-lt places i))
+    grind (arith, x1, x2, x3, x4, x5, x6, bit_at-lt mask i))
 
-to_seen : (c : Cube) (places digits fixed bits m n : ℕ) → SeenFrom c places fixed bits → IsReplaced places digits m n → bit_and n c.fixed ≡ c.bits → bit_and m fixed ≡ bits
-to_seen c places digits fixed bits m n s r h =
+to_seen : (c : Cube) (mask digits fixed bits m n : ℕ) → SeenFrom c mask fixed bits → IsReplaced mask digits m n → bit_and n c.fixed ≡ c.bits → bit_and m fixed ≡ bits
+to_seen c mask digits fixed bits m n s r h =
     same_from_bits _ _ (λ i.
     let x1 = bit_at_and m fixed i in
     let x2 = bit_at_and n c.fixed i in
@@ -245,10 +245,10 @@ to_seen c places digits fixed bits m n s r h =
     let x6 = s.bits_there.kept i in
     let x7 = s.bits_there.gone i in
     let x8 = r.outside i in
-    grind (arith, x1, x2, x3, x4, x5, x6, x7, x8, bit_at-lt places i, bit_at-lt m i))
+    grind (arith, x1, x2, x3, x4, x5, x6, x7, x8, bit_at-lt mask i, bit_at-lt m i))
 
-from_seen : (c : Cube) (places digits fixed bits m n : ℕ) → SeenFrom c places fixed bits → IsReplaced places digits m n → bit_and digits c.fixed ≡ bit_and c.bits places → bit_and m fixed ≡ bits → bit_and n c.fixed ≡ c.bits
-from_seen c places digits fixed bits m n s r k h =
+from_seen : (c : Cube) (mask digits fixed bits m n : ℕ) → SeenFrom c mask fixed bits → IsReplaced mask digits m n → bit_and digits c.fixed ≡ bit_and c.bits mask → bit_and m fixed ≡ bits → bit_and n c.fixed ≡ c.bits
+from_seen c mask digits fixed bits m n s r k h =
     same_from_bits _ _ (λ i.
     let x1 = bit_at_and n c.fixed i in
     let x2 = bit_at_and m fixed i in
@@ -258,32 +258,32 @@ from_seen c places digits fixed bits m n s r k h =
     let x6 = r.outside i in
     let x7 = r.inside i in
     let x8 = bit_at_and digits c.fixed i in
-    let x9 = bit_at_and c.bits places i in
+    let x9 = bit_at_and c.bits mask i in
     let y1 = ap (λ x. bit_at x i) k in
     let y2 = in_mask c.fixed c.bits i c.digits in
-    grind (arith, x1, x2, x3, x4, x5, x6, x7, x8, x9, y1, y2, bit_at-lt places i, bit_at-lt c.bits i))
+    grind (arith, x1, x2, x3, x4, x5, x6, x7, x8, x9, y1, y2, bit_at-lt mask i, bit_at-lt c.bits i))
 
-pub agrees_there : (c : Cube) (places digits m n : ℕ) → IsReplaced places digits m n → bit_and n c.fixed ≡ c.bits → bit_and digits c.fixed ≡ bit_and c.bits places
-agrees_there c places digits m n r h =
+pub agrees_there : (c : Cube) (mask digits m n : ℕ) → IsReplaced mask digits m n → bit_and n c.fixed ≡ c.bits → bit_and digits c.fixed ≡ bit_and c.bits mask
+agrees_there c mask digits m n r h =
     same_from_bits _ _ (λ i.
     let x1 = bit_at_and n c.fixed i in
     let x2 = ap (λ x. bit_at x i) h in
     let x3 = r.within i in
     let x4 = r.inside i in
     let x5 = bit_at_and digits c.fixed i in
-    let x6 = bit_at_and c.bits places i in
-    grind (arith, x1, x2, x3, x4, x5, x6, bit_at-lt places i, bit_at-lt c.fixed i, bit_at-lt n i))
+    let x6 = bit_at_and c.bits mask i in
+    grind (arith, x1, x2, x3, x4, x5, x6, bit_at-lt mask i, bit_at-lt c.fixed i, bit_at-lt n i))
 
-pub sent : (s : Stamp) (c d : Cube) (places digits : ℕ) → Writes s places digits → SeenFrom c places d.fixed d.bits → bit_and digits c.fixed ≡ bit_and c.bits places → (h : Header) → IsHeader h → IsIn d (number h) ↔ IsIn c (number (applied s h))
-sent s c d places digits w v k h i =
+pub sent : (s : Stamp) (c d : Cube) (mask digits : ℕ) → Writes s mask digits → SeenFrom c mask d.fixed d.bits → bit_and digits c.fixed ≡ bit_and c.bits mask → (h : Header) → IsHeader h → IsIn d (number h) ↔ IsIn c (number (applied s h))
+sent s c d mask digits w v k h i =
     let n = number (applied s h) in (
-      λ p. in_from_mask c n (from_seen c places digits d.fixed d.bits (number h) n v (w.replaced h i) k (mask_from_in d (number h) p)),
-      λ p. in_from_mask d (number h) (to_seen c places digits d.fixed d.bits (number h) n v (w.replaced h i) (mask_from_in c n p)),
+      λ p. in_from_mask c n (from_seen c mask digits d.fixed d.bits (number h) n v (w.replaced h i) k (mask_from_in d (number h) p)),
+      λ p. in_from_mask d (number h) (to_seen c mask digits d.fixed d.bits (number h) n v (w.replaced h i) (mask_from_in c n p)),
     )
 
-pub sent_none : (s : Stamp) (c : Cube) (places digits : ℕ) → Writes s places digits → (bit_and digits c.fixed ≡ bit_and c.bits places → ⊥) → (h : Header) → IsHeader h → IsIn c (number (applied s h)) → ⊥
-sent_none s c places digits w clash h i p =
-    clash (agrees_there c places digits (number h) (number (applied s h)) (w.replaced h i) (mask_from_in c (number (applied s h)) p))
+pub sent_none : (s : Stamp) (c : Cube) (mask digits : ℕ) → Writes s mask digits → (bit_and digits c.fixed ≡ bit_and c.bits mask → ⊥) → (h : Header) → IsHeader h → IsIn c (number (applied s h)) → ⊥
+sent_none s c mask digits w clash h i p =
+    clash (agrees_there c mask digits (number h) (number (applied s h)) (w.replaced h i) (mask_from_in c (number (applied s h)) p))
 
 -- a cube has a header
 pub some_sent : (d : Cube) → (h : Header) × IsHeader h × IsIn d (number h)
@@ -292,107 +292,107 @@ some_sent d =
     (h, header_of-is_header d.bits, subst (IsIn d) (sym (number-header_of d.bits (bits_below d))) (in_from_mask d d.bits d.digits))
 
 -- ---- the image
-pub record IsImage (c : Cube) (places digits fixed bits : ℕ) : Type 0 where
-  pub fixed_or : fixed ≡ bit_or c.fixed places
-  pub bits_or : bits ≡ bit_or (without c.bits places) digits
+pub record IsImage (c : Cube) (mask digits fixed bits : ℕ) : Type 0 where
+  pub fixed_or : fixed ≡ bit_or c.fixed mask
+  pub bits_or : bits ≡ bit_or (without c.bits mask) digits
 
-pub image_digits : (c : Cube) (places digits : ℕ) → places < 2 ^ 112 → bit_and digits places ≡ digits → bit_and (bit_or (without c.bits places) digits) (bit_or c.fixed places) ≡ bit_or (without c.bits places) digits
-image_digits c places digits l e =
-    let v = is_without c.bits places (bits_below c) l in
+pub image_digits : (c : Cube) (mask digits : ℕ) → mask < 2 ^ 112 → bit_and digits mask ≡ digits → bit_and (bit_or (without c.bits mask) digits) (bit_or c.fixed mask) ≡ bit_or (without c.bits mask) digits
+image_digits c mask digits l e =
+    let v = is_without c.bits mask (bits_below c) l in
     same_from_bits _ _ (λ i.
     let x1 = in_mask c.fixed c.bits i c.digits in
-    let x2 = in_mask places digits i e in
-    let x3 = bit_at_and (bit_or (without c.bits places) digits) (bit_or c.fixed places) i in
-    let x4 = bit_at_or (without c.bits places) digits i in
-    let x5 = bit_at_or c.fixed places i in
+    let x2 = in_mask mask digits i e in
+    let x3 = bit_at_and (bit_or (without c.bits mask) digits) (bit_or c.fixed mask) i in
+    let x4 = bit_at_or (without c.bits mask) digits i in
+    let x5 = bit_at_or c.fixed mask i in
     let x6 = v.kept i in
     let x7 = v.gone i in
-    grind (arith, x1, x2, x3, x4, x5, x6, x7, bit_at-lt places i, bit_at-lt digits i, bit_at-lt c.bits i))
+    grind (arith, x1, x2, x3, x4, x5, x6, x7, bit_at-lt mask i, bit_at-lt digits i, bit_at-lt c.bits i))
 
-to_image : (c : Cube) (places digits w m n : ℕ) → IsWithout c.bits places w → IsReplaced places digits m n → bit_and m c.fixed ≡ c.bits → bit_and n (bit_or c.fixed places) ≡ bit_or w digits
-to_image c places digits w m n v r h =
+to_image : (c : Cube) (mask digits w m n : ℕ) → IsWithout c.bits mask w → IsReplaced mask digits m n → bit_and m c.fixed ≡ c.bits → bit_and n (bit_or c.fixed mask) ≡ bit_or w digits
+to_image c mask digits w m n v r h =
     same_from_bits _ _ (λ i.
     let x1 = bit_at_and m c.fixed i in
     let x2 = ap (λ x. bit_at x i) h in
-    let x3 = bit_at_and n (bit_or c.fixed places) i in
-    let x4 = bit_at_or c.fixed places i in
+    let x3 = bit_at_and n (bit_or c.fixed mask) i in
+    let x4 = bit_at_or c.fixed mask i in
     let x5 = bit_at_or w digits i in
     let x6 = v.kept i in
     let x7 = v.gone i in
     let x8 = r.within i in
     let x9 = r.inside i in
     let y1 = r.outside i in
-    grind (arith, x1, x2, x3, x4, x5, x6, x7, x8, x9, y1, bit_at-lt places i, bit_at-lt n i, bit_at-lt digits i, bit_at-lt c.fixed i))
+    grind (arith, x1, x2, x3, x4, x5, x6, x7, x8, x9, y1, bit_at-lt mask i, bit_at-lt n i, bit_at-lt digits i, bit_at-lt c.fixed i))
 
--- the header of which g was made: the digits of c at the replaced places
-before : (c : Cube) (places g : ℕ) → ℕ
-before c places g = bit_or (without g places) (bit_and c.bits places)
+-- the header of which g was made: the digits of c at the replaced bits
+before : (c : Cube) (mask g : ℕ) → ℕ
+before c mask g = bit_or (without g mask) (bit_and c.bits mask)
 
-before_bit : (c : Cube) (places g i : ℕ) → g < 2 ^ 112 → places < 2 ^ 112 → (bit_at places i ≡ 0 → bit_at (before c places g) i ≡ bit_at g i) × (bit_at places i ≡ 1 → bit_at (before c places g) i ≡ bit_at c.bits i)
+before_bit : (c : Cube) (mask g i : ℕ) → g < 2 ^ 112 → mask < 2 ^ 112 → (bit_at mask i ≡ 0 → bit_at (before c mask g) i ≡ bit_at g i) × (bit_at mask i ≡ 1 → bit_at (before c mask g) i ≡ bit_at c.bits i)
 unfolding before
-before_bit c places g i b l =
-    let v = is_without g places b l in
-    let x1 = bit_at_or (without g places) (bit_and c.bits places) i in
-    let x2 = bit_at_and c.bits places i in
+before_bit c mask g i b l =
+    let v = is_without g mask b l in
+    let x1 = bit_at_or (without g mask) (bit_and c.bits mask) i in
+    let x2 = bit_at_and c.bits mask i in
     let x3 = v.kept i in
     let x4 = v.gone i in
     (λ e. grind (arith, x1, x2, x3, e, bit_at-lt c.bits i, bit_at-lt g i), λ e. grind (arith, x1, x2, x4, e, bit_at-lt c.bits i))
 
-before_below : (c : Cube) (places g : ℕ) → g < 2 ^ 112 → before c places g < 2 ^ 112
+before_below : (c : Cube) (mask g : ℕ) → g < 2 ^ 112 → before c mask g < 2 ^ 112
 unfolding before
-before_below c places g b =
-    let x = and_le_l g (bit_not w128 places) in
-    let y = and_le_l c.bits places in
+before_below c mask g b =
+    let x = and_le_l g (bit_not w128 mask) in
+    let y = and_le_l c.bits mask in
     let z = bits_below c in
-    or_lt 112 (without g places) (bit_and c.bits places) (omega (arith, x, b)) (omega (arith, y, z))
+    or_lt 112 (without g mask) (bit_and c.bits mask) (omega (arith, x, b)) (omega (arith, y, z))
 
-before_in : (c : Cube) (places digits w g : ℕ) → g < 2 ^ 112 → places < 2 ^ 112 → IsWithout c.bits places w → bit_and digits places ≡ digits → bit_and g (bit_or c.fixed places) ≡ bit_or w digits → bit_and (before c places g) c.fixed ≡ c.bits
-before_in c places digits w g b l v e h =
+before_in : (c : Cube) (mask digits w g : ℕ) → g < 2 ^ 112 → mask < 2 ^ 112 → IsWithout c.bits mask w → bit_and digits mask ≡ digits → bit_and g (bit_or c.fixed mask) ≡ bit_or w digits → bit_and (before c mask g) c.fixed ≡ c.bits
+before_in c mask digits w g b l v e h =
     same_from_bits _ _ (λ i.
-    let x1 = bit_at_and (before c places g) c.fixed i in
-    let x2 = (before_bit c places g i b l).0 in
-    let x3 = (before_bit c places g i b l).1 in
-    let x4 = bit_at_and g (bit_or c.fixed places) i in
+    let x1 = bit_at_and (before c mask g) c.fixed i in
+    let x2 = (before_bit c mask g i b l).0 in
+    let x3 = (before_bit c mask g i b l).1 in
+    let x4 = bit_at_and g (bit_or c.fixed mask) i in
     let x5 = ap (λ x. bit_at x i) h in
-    let x6 = bit_at_or c.fixed places i in
+    let x6 = bit_at_or c.fixed mask i in
     let x7 = bit_at_or w digits i in
     let x8 = v.kept i in
     let y1 = in_mask c.fixed c.bits i c.digits in
-    let y2 = in_mask places digits i e in
-    grind (arith, x1, x2, x3, x4, x5, x6, x7, x8, y1, y2, bit_at-lt places i, bit_at-lt c.bits i, bit_at-lt digits i, bit_at-lt c.fixed i))
+    let y2 = in_mask mask digits i e in
+    grind (arith, x1, x2, x3, x4, x5, x6, x7, x8, y1, y2, bit_at-lt mask i, bit_at-lt c.bits i, bit_at-lt digits i, bit_at-lt c.fixed i))
 
-same_made : (c : Cube) (places digits w g n : ℕ) → g < 2 ^ 112 → places < 2 ^ 112 → IsWithout c.bits places w → bit_and g (bit_or c.fixed places) ≡ bit_or w digits → IsReplaced places digits (before c places g) n → n ≡ g
-same_made c places digits w g n b l v h r =
+same_made : (c : Cube) (mask digits w g n : ℕ) → g < 2 ^ 112 → mask < 2 ^ 112 → IsWithout c.bits mask w → bit_and g (bit_or c.fixed mask) ≡ bit_or w digits → IsReplaced mask digits (before c mask g) n → n ≡ g
+same_made c mask digits w g n b l v h r =
     same_from_bits _ _ (λ i.
-    let x2 = (before_bit c places g i b l).0 in
-    let x4 = bit_at_and g (bit_or c.fixed places) i in
+    let x2 = (before_bit c mask g i b l).0 in
+    let x4 = bit_at_and g (bit_or c.fixed mask) i in
     let x5 = ap (λ x. bit_at x i) h in
-    let x6 = bit_at_or c.fixed places i in
+    let x6 = bit_at_or c.fixed mask i in
     let x7 = bit_at_or w digits i in
     let x8 = v.gone i in
     let x9 = r.inside i in
     let y1 = r.outside i in
-    grind (arith, x2, x4, x5, x6, x7, x8, x9, y1, bit_at-lt places i, bit_at-lt g i, bit_at-lt digits i, bit_at-lt c.fixed i))
+    grind (arith, x2, x4, x5, x6, x7, x8, x9, y1, bit_at-lt mask i, bit_at-lt g i, bit_at-lt digits i, bit_at-lt c.fixed i))
 
-pub image : (s : Stamp) (c d : Cube) (places digits : ℕ) → Writes s places digits → d.fixed ≡ bit_or c.fixed places → d.bits ≡ bit_or (without c.bits places) digits → (g : Header) → IsHeader g → IsIn d (number g) ↔ IsMadeFrom s c g
-image s c d places digits w e f g i =
-    let v = is_without c.bits places (bits_below c) w.below in
+pub image : (s : Stamp) (c d : Cube) (mask digits : ℕ) → Writes s mask digits → d.fixed ≡ bit_or c.fixed mask → d.bits ≡ bit_or (without c.bits mask) digits → (g : Header) → IsHeader g → IsIn d (number g) ↔ IsMadeFrom s c g
+image s c d mask digits w e f g i =
+    let v = is_without c.bits mask (bits_below c) w.below in
     let b = number-below g i in (
       λ p.
-          let q : bit_and (number g) (bit_or c.fixed places) ≡ bit_or (without c.bits places) digits = ap (λ x. bit_and (number g) x) (sym e) ∙ (mask_from_in d (number g) p ∙ f) in
-          let m = before c places (number g) in
-          let k : number (header_of m) ≡ m = number-header_of m (before_below c places (number g) b) in
+          let q : bit_and (number g) (bit_or c.fixed mask) ≡ bit_or (without c.bits mask) digits = ap (λ x. bit_and (number g) x) (sym e) ∙ (mask_from_in d (number g) p ∙ f) in
+          let m = before c mask (number g) in
+          let k : number (header_of m) ≡ m = number-header_of m (before_below c mask (number g) b) in
           let h = header_of m in
           let j = header_of-is_header m in
-          let r : IsReplaced places digits m (number (applied s h)) = subst (λ x. IsReplaced places digits x (number (applied s h))) k (w.replaced h j) in
-          let same = same_made c places digits (without c.bits places) (number g) (number (applied s h)) b w.below v q r in (
+          let r : IsReplaced mask digits m (number (applied s h)) = subst (λ x. IsReplaced mask digits x (number (applied s h))) k (w.replaced h j) in
+          let same = same_made c mask digits (without c.bits mask) (number g) (number (applied s h)) b w.below v q r in (
             h,
             j,
-            subst (IsIn c) (sym k) (in_from_mask c m (before_in c places digits (without c.bits places) (number g) b w.below v w.fits q)),
+            subst (IsIn c) (sym k) (in_from_mask c m (before_in c mask digits (without c.bits mask) (number g) b w.below v w.fits q)),
             sym (header_of-number (applied s h) (w.valid h j)) ∙ (ap header_of same ∙ header_of-number g i),
           ),
       λ (h, j, p, same).
-          let q = to_image c places digits (without c.bits places) (number h) (number (applied s h)) v (w.replaced h j) (mask_from_in c (number h) p) in
+          let q = to_image c mask digits (without c.bits mask) (number h) (number (applied s h)) v (w.replaced h j) (mask_from_in c (number h) p) in
           subst (λ x. IsIn d (number x)) same (in_from_mask d (number (applied s h)) (ap (λ x. bit_and (number (applied s h)) x) e ∙ (q ∙ sym f))),
     )
 
@@ -445,12 +445,12 @@ changed_same s h =
       flags = h.flags;
     }
 
--- a place that is `*` in the image
-pub image_star : (s : Stamp) (c d : Cube) (places digits k : ℕ) → Writes s places digits → d.fixed ≡ bit_or c.fixed places → IsStar d k → IsStar c k × ((h : Header) → IsHeader h → bit (number (applied s h)) k ≡ bit (number h) k)
-image_star s c d places digits k w e st =
+-- a bit that is `*` in the image
+pub image_star : (s : Stamp) (c d : Cube) (mask digits k : ℕ) → Writes s mask digits → d.fixed ≡ bit_or c.fixed mask → IsStar d k → IsStar c k × ((h : Header) → IsHeader h → bit_of (number (applied s h)) k ≡ bit_of (number h) k)
+image_star s c d mask digits k w e st =
     let z = star_free d k st in
-    let x = bit_at_or c.fixed places (111 - k) in
+    let x = bit_at_or c.fixed mask (111 - k) in
     let y = ap (λ n. bit_at n (111 - k)) e in
-    let f : bit c.fixed k ≡ 0 = omega (arith, x, y, z) in
-    let p : bit_at places (111 - k) ≡ 0 = omega (arith, x, y, z) in
+    let f : bit_of c.fixed k ≡ 0 = omega (arith, x, y, z) in
+    let p : bit_at mask (111 - k) ≡ 0 = omega (arith, x, y, z) in
     (free_star c k f, λ h i. (w.replaced h i).outside (111 - k) p)

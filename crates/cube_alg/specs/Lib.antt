@@ -2,3 +2,4 @@ pub mod Pairs
 pub mod Rest
 pub mod Pieces
 pub mod Stamps
+pub mod OnCubes

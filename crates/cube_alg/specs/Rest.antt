@@ -3,28 +3,28 @@ use Rattle.std.specs.Prelude.{ℕ, Some, ◌≡◌, ◌<◌, ◌-◌, ◌↔◌,
 use Rattle.std.specs.List.{AllZip}
 use Rattle.std.specs.Option.{option_or}
 use Rattle.hdr_bits.specs.declared.cube.Cube.{Cube}
-use Rattle.hdr_bits.specs.Bits.{bit}
-use Rattle.hdr_bits.specs.CubeBits.{place, IsIn, IsStar}
+use Rattle.hdr_bits.specs.Bits.{bit_of}
+use Rattle.hdr_bits.specs.CubeBits.{digit_at, IsIn, IsStar}
 use Rattle.cube_alg.specs.Pairs.{AreApart, IsInside}
 
--- place k is `*` in a and has a digit in b
+-- bit k is `*` in a and has a digit in b
 pub record Narrows (b a : Cube) (k : ℕ) : Type 0 where
   pub within : k < 112
   pub star : IsStar a k
-  pub digit : bit b.fixed k ≡ 1
+  pub digit : bit_of b.fixed k ≡ 1
 
--- the part of a that agrees with b at the places before k where only b has a digit, and differs from it at k
+-- the part of a that agrees with b at the bits before k where only b has a digit, and differs from it at k
 pub record IsPartAt (a b : Cube) (k : ℕ) (c : Cube) : Type 0 where
-  pub before : (i : ℕ) → i < k → place c i ≡ option_or (place a i) (place b i)
-  pub differs : place c k ≡ Some (1 - bit b.bits k)
-  pub behind : (i : ℕ) → k < i → i < 112 → place c i ≡ place a i
+  pub before : (i : ℕ) → i < k → digit_at c i ≡ option_or (digit_at a i) (digit_at b i)
+  pub differs : digit_at c k ≡ Some (1 - bit_of b.bits k)
+  pub behind : (i : ℕ) → k < i → i < 112 → digit_at c i ≡ digit_at a i
 
 -- the cubes are these parts, for rising k
 pub record AreParts (a b : Cube) (cubes : List Cube) : Type 0 where
-  pub places : List ℕ
-  pub narrowed : (k : ℕ) → Contains places k ↔ Narrows b a k
-  pub rising : AllPairs (λ i k. i < k) places
-  pub parts : AllZip (IsPartAt a b) places cubes
+  pub bits : List ℕ
+  pub narrowed : (k : ℕ) → Contains bits k ↔ Narrows b a k
+  pub rising : AllPairs (λ i k. i < k) bits
+  pub parts : AllZip (IsPartAt a b) bits cubes
 
 -- disjoint cubes that hold exactly the headers of a outside b
 pub record AreRest (a b : Cube) (cubes : List Cube) : Type 0 where
@@ -33,7 +33,7 @@ pub record AreRest (a b : Cube) (cubes : List Cube) : Type 0 where
   pub outside : All (λ c. AreApart c b) cubes
   pub covers : (h : ℕ) → IsIn a h → (IsIn b h → ⊥) → Any (λ c. IsIn c h) cubes
 
--- a alone where it has no header of b, else its parts for rising places
+-- a alone where it has no header of b, else its parts for rising bits
 abbrev pub AreInOrder : Cube → Cube → List Cube → Type 0
 AreInOrder a b cubes = (AreApart a b × (cubes ≡ a ∷ [])) ⊎ AreParts a b cubes
 
@@ -50,8 +50,3 @@ pub record AddsNarrowing (a b : Cube) (old new : List Cube) : Type 0 where
   pub added : new ≡ old ++ cubes
   pub rest : AreRest a b cubes
   pub order : AreParts a b cubes
-
--- cubes were added, and no old one is gone
-pub record Extends (old new : List Cube) : Type 0 where
-  pub more : List Cube
-  pub added : new ≡ old ++ more

@@ -51,20 +51,20 @@ IsMadeFrom s c g = (h : Header) × IsHeader h × IsIn c (number h) × (applied s
 
 -- ---- how it is reckoned, on numbers
 
--- n is m with the digits at these places replaced by the given ones
-pub record IsReplaced (places digits m n : ℕ) : Type 0 where
-  pub within : (i : ℕ) → bit_at digits i ≤ bit_at places i
-  pub inside : (i : ℕ) → bit_at places i ≡ 1 → bit_at n i ≡ bit_at digits i
-  pub outside : (i : ℕ) → bit_at places i ≡ 0 → bit_at n i ≡ bit_at m i
+-- n is m with the digits at these bits replaced by the given ones
+pub record IsReplaced (mask digits m n : ℕ) : Type 0 where
+  pub within : (i : ℕ) → bit_at digits i ≤ bit_at mask i
+  pub inside : (i : ℕ) → bit_at mask i ≡ 1 → bit_at n i ≡ bit_at digits i
+  pub outside : (i : ℕ) → bit_at mask i ≡ 0 → bit_at n i ≡ bit_at m i
 
--- the places of a field of this width, and its value there; none where nothing is replaced
+-- the bits of a field of this width, and its value there; none where nothing is replaced
 abbrev pub IsFieldAt : ℕ → ℕ → Option ℕ → ℕ → ℕ → Type 0
-IsFieldAt shift width value places digits =
-    MatchOption value ((places ≡ 0) × (digits ≡ 0)) (λ v. (v < 2 ^ width) × (places ≡ 2 ^ (shift + width) - 2 ^ shift) × (digits ≡ v * 2 ^ shift))
+IsFieldAt shift width value mask digits =
+    MatchOption value ((mask ≡ 0) × (digits ≡ 0)) (λ v. (v < 2 ^ width) × (mask ≡ 2 ^ (shift + width) - 2 ^ shift) × (digits ≡ v * 2 ^ shift))
 
--- the places and digits that the stamp replaces in a header's number
-pub record Writes (s : Stamp) (places digits : ℕ) : Type 0 where
-  pub below : places < 2 ^ 112
-  pub fits : bit_and digits places ≡ digits
+-- the bits and digits that the stamp replaces in a header's number
+pub record Writes (s : Stamp) (mask digits : ℕ) : Type 0 where
+  pub below : mask < 2 ^ 112
+  pub fits : bit_and digits mask ≡ digits
   pub valid : (h : Header) → IsHeader h → IsHeader (applied s h)
-  pub replaced : (h : Header) → IsHeader h → IsReplaced places digits (number h) (number (applied s h))
+  pub replaced : (h : Header) → IsHeader h → IsReplaced mask digits (number h) (number (applied s h))

@@ -1,7 +1,7 @@
 //! The cut of a region by first match: disjoint parts, each with the value of the first piece that holds its headers.
 
 ghost use Rattle.std.specs.Prelude.{◌≡◌, ◌<◌, ◌^◌, ◌-◌, ℕ, Some, All, AllPairs, Any, IfOk, OnOk, IfSome, IsNone, bit_and};
-ghost use Rattle.hdr_bits.specs.Bits.{bit};
+ghost use Rattle.hdr_bits.specs.Bits.{bit_of};
 ghost use Rattle.hdr_bits.specs.CubeBits.{IsIn, IsStar};
 ghost use Rattle.cube_alg.specs.Pairs.{Meets, IsInside};
 ghost use Rattle.cube_alg.specs.Rest.{Narrows};
@@ -68,14 +68,14 @@ fn add_cut(
         parts.push(Piece { cube: node, value })?;
         return Ok(());
     }
-    let Some(place) = free_place(&first.cube, &node) else {
+    let Some(bit) = free_bit(&first.cube, &node) else {
         parts.push(Piece {
             cube: node,
             value: first.value,
         })?;
         return Ok(());
     };
-    let (low, high) = split(&node, place);
+    let (low, high) = split(&node, bit);
     let zeros = meeting(alloc, pieces, &low)?;
     add_cut(alloc, &zeros, low, parts)?;
     let ones = meeting(alloc, pieces, &high)?;
@@ -101,10 +101,10 @@ fn settled(pieces: &[Piece], node: &Cube) -> Option<u32>
     None
 }
 
-// The first place where the cube has a digit and the node has none.
-pub(crate) fn free_place(cube: &Cube, node: &Cube) -> Option<u32>
+// The first bit where the cube has a digit and the node has none.
+pub(crate) fn free_bit(cube: &Cube, node: &Cube) -> Option<u32>
     ensures none { IsNone result → bit_and cube.now.fixed node.now.fixed ≡ cube.now.fixed }
-    ensures place { IfSome result (Narrows cube.now node.now) }
+    ensures bit { IfSome result (Narrows cube.now node.now) }
     ensures first { IfSome result (λ k. (i : ℕ) → i < k → Narrows cube.now node.now i → ⊥) }
 {
     let free = cube.fixed ^ (cube.fixed & node.fixed);

@@ -1,7 +1,7 @@
 //! Two cubes together, and a cube in two.
 
 ghost use Rattle.std.specs.Prelude.{◌≡◌, ◌<◌, ◌^◌, ◌↔◌, ◌+◌, ◌-◌, ℕ, false, IsTrue, IfSome, IsNone, bit_and, bit_or};
-ghost use Rattle.hdr_bits.specs.Bits.{bit};
+ghost use Rattle.hdr_bits.specs.Bits.{bit_of};
 ghost use Rattle.hdr_bits.specs.CubeBits.{IsIn, IsStar};
 ghost use Rattle.cube_alg.specs.Pairs.{Meets, AreApart, Overlap, IsInside, HasDigit};
 
@@ -33,7 +33,7 @@ pub(crate) fn is_wider(a: &Cube, b: &Cube) -> bool
 /// The headers that are in both cubes; `None` exactly where there are none.
 pub fn meet(a: &Cube, b: &Cube) -> Option<Cube>
     ensures both { IfSome result (λ c. (h : ℕ) → IsIn c h ↔ (IsIn a.now h × IsIn b.now h)) }
-    ensures places { IfSome result (λ c. c.fixed ≡ bit_or a.now.fixed b.now.fixed) }
+    ensures digits { IfSome result (λ c. c.fixed ≡ bit_or a.now.fixed b.now.fixed) }
     ensures none { IsNone result ↔ AreApart a.now b.now }
 {
     if !meets(a, b) {
@@ -45,16 +45,16 @@ pub fn meet(a: &Cube, b: &Cube) -> Option<Cube>
     })
 }
 
-/// The headers of the cube whose bit `k` is 0, and those where it is 1. Place `k`, below 112, is `*` before.
+/// The headers of the cube whose bit `k` is 0, and those where it is 1. Bit `k`, below 112, is `*` before.
 pub fn split(c: &Cube, k: u32) -> (Cube, Cube)
-    requires place { k < 112 }
+    requires bit { k < 112 }
     requires star { IsStar c.now k }
-    ensures low { (h : ℕ) → IsIn result.0 h ↔ (IsIn c.now h × (bit h k ≡ 0)) }
-    ensures high { (h : ℕ) → IsIn result.1 h ↔ (IsIn c.now h × (bit h k ≡ 1)) }
+    ensures low { (h : ℕ) → IsIn result.0 h ↔ (IsIn c.now h × (bit_of h k ≡ 0)) }
+    ensures high { (h : ℕ) → IsIn result.1 h ↔ (IsIn c.now h × (bit_of h k ≡ 1)) }
 
-    // Only that place is changed.
-    ensures low_places { HasDigit k 0 c.now result.0 }
-    ensures high_places { HasDigit k 1 c.now result.1 }
+    // Only that bit is changed.
+    ensures low_bits { HasDigit k 0 c.now result.0 }
+    ensures high_bits { HasDigit k 1 c.now result.1 }
     ensures fixed { (result.0.fixed ≡ c.now.fixed + 2 ^ (111 - k)) × (result.1.fixed ≡ c.now.fixed + 2 ^ (111 - k)) }
 {
     let weight = 1 << (111 - k);

@@ -3,7 +3,7 @@
 ghost use Rattle.std.specs.Prelude.{◌≡◌, ◌^◌, ◌<◌, ◌≤◌, ◌+◌, ◌-◌, ◌*◌, ◌↔◌, ℕ, IfSome, IsNone};
 ghost use Rattle.hdr_bits.specs.declared.header.Header.{Header};
 ghost use Rattle.hdr_bits.specs.HeaderBits.{number, IsHeader};
-ghost use Rattle.hdr_bits.specs.Bits.{bit};
+ghost use Rattle.hdr_bits.specs.Bits.{bit_of};
 ghost use Rattle.hdr_bits.specs.CubeBits.{IsIn, IsStar};
 ghost use Rattle.cube_alg.specs.Stamps.{applied, followed, unless_same, changed_fields, IsMadeFrom, IsFieldAt, Writes};
 
@@ -78,13 +78,13 @@ impl Stamp {
             (λ d. (h : Header) → IsHeader h → IsIn d (number h) ↔ IsIn c.now (number (applied self.now h))) }
         ensures none { IsNone result ↔ ((h : Header) → IsHeader h → IsIn c.now (number (applied self.now h)) → ⊥) }
     {
-        let Written { places, digits } = self.written();
-        if digits & c.fixed != c.bits & places {
+        let Written { mask, digits } = self.written();
+        if digits & c.fixed != c.bits & mask {
             return None;
         }
         Some(Cube {
-            fixed: c.fixed & !places,
-            bits: c.bits & !places,
+            fixed: c.fixed & !mask,
+            bits: c.bits & !mask,
         })
     }
 
@@ -94,41 +94,41 @@ impl Stamp {
 
         // What is `*` there is `*` in the cube, and the stamp leaves it as it is.
         ensures stars { (k : ℕ) → IsStar result k → IsStar c.now k }
-        ensures kept { (k : ℕ) → IsStar result k → (h : Header) → IsHeader h → bit (number (applied self.now h)) k ≡ bit (number h) k }
+        ensures kept { (k : ℕ) → IsStar result k → (h : Header) → IsHeader h → bit_of (number (applied self.now h)) k ≡ bit_of (number h) k }
     {
-        let Written { places, digits } = self.written();
+        let Written { mask, digits } = self.written();
         Cube {
-            fixed: c.fixed | places,
-            bits: c.bits & !places | digits,
+            fixed: c.fixed | mask,
+            bits: c.bits & !mask | digits,
         }
     }
 
-    // The places of the fields that are replaced, with their digits.
+    // The bits of the fields that are replaced, with their digits.
     fn written(&self) -> Written
-        ensures { Writes self.now result.places result.digits }
+        ensures { Writes self.now result.mask result.digits }
     {
         let dst = address_at(self.dst, 80);
         let src = address_at(self.src, 48);
         let dport = port_at(self.dport, 24);
         let sport = port_at(self.sport, 8);
         Written {
-            places: dst.places | src.places | dport.places | sport.places,
+            mask: dst.mask | src.mask | dport.mask | sport.mask,
             digits: dst.digits | src.digits | dport.digits | sport.digits,
         }
     }
 }
 
-// Places of a header's number, by their weights, and the digits that are written there.
+// Bits of a header's number, by their weights, and the digits that are written there.
 #[derive(Clone, Copy)]
 struct Written {
-    places: u128,
+    mask: u128,
     digits: u128,
 }
 
 // An address that stands from this bit on.
 fn address_at(value: Option<u32>, shift: u32) -> Written
     requires { shift ≤ 80 }
-    ensures { IsFieldAt shift 32 value result.places result.digits }
+    ensures { IsFieldAt shift 32 value result.mask result.digits }
 {
     match value {
         Some(address) => field_at(address, shift, 32),
@@ -139,7 +139,7 @@ fn address_at(value: Option<u32>, shift: u32) -> Written
 // A port that stands from this bit on.
 fn port_at(value: Option<u16>, shift: u32) -> Written
     requires { shift ≤ 80 }
-    ensures { IsFieldAt shift 16 value result.places result.digits }
+    ensures { IsFieldAt shift 16 value result.mask result.digits }
 {
     match value {
         Some(port) => field_at(u32::from(port), shift, 16),
@@ -148,22 +148,19 @@ fn port_at(value: Option<u16>, shift: u32) -> Written
 }
 
 fn nowhere() -> Written
-    ensures { (result.places ≡ 0) × (result.digits ≡ 0) }
+    ensures { (result.mask ≡ 0) × (result.digits ≡ 0) }
 {
-    Written {
-        places: 0,
-        digits: 0,
-    }
+    Written { mask: 0, digits: 0 }
 }
 
 fn field_at(value: u32, shift: u32, width: u32) -> Written
     requires shift { shift ≤ 80 }
     requires width { width ≤ 32 }
     requires value { value < 2 ^ width }
-    ensures { (result.places ≡ 2 ^ (shift + width) - 2 ^ shift) × (result.digits ≡ value * 2 ^ shift) }
+    ensures { (result.mask ≡ 2 ^ (shift + width) - 2 ^ shift) × (result.digits ≡ value * 2 ^ shift) }
 {
     Written {
-        places: (1 << (shift + width)) - (1 << shift),
+        mask: (1 << (shift + width)) - (1 << shift),
         digits: u128::from(value) << shift,
     }
 }

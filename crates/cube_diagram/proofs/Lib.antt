@@ -5,3 +5,11 @@ pub mod EntryLemmas
 pub mod BitLemmas
 pub mod DescentLemmas
 pub mod ReachLemmas
+pub mod ImageLemmas
+pub mod LeastLemmas
+pub mod StampLemmas
+pub mod ExactLemmas
+pub mod RetoldLemmas
+pub mod PathLemmas
+pub mod PairedLemmas
+pub mod TrieLemmas

@@ -5,3 +5,8 @@ pub mod Entries
 pub mod Parts
 pub mod Functions
 pub mod Reach
+pub mod Images
+pub mod Exact
+pub mod Paths
+pub mod Paired
+pub mod Tries

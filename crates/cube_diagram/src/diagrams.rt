@@ -3,20 +3,27 @@
 ghost use Rattle.std.specs.Prelude.{◌≡◌, ◌<◌, ◌≤◌, ◌^◌, ◌↔◌, ℕ, None, All, IfOk, IsTrue, length};
 ghost use Rattle.hdr_bits.specs.HeaderBits.{number};
 ghost use Rattle.cube_alg.specs.Pieces.{value_of};
+ghost use Rattle.cube_alg.specs.OnCubes.{OfOnCube};
 ghost use Rattle.cube_diagram.specs.Combined.{difference};
 ghost use Rattle.cube_diagram.specs.Entries.{cubes_value, first_value};
+ghost use Rattle.hdr_bits.specs.Rows.{AreRows};
 ghost use Rattle.cube_diagram.specs.Parts.{OfPart};
+ghost use Rattle.cube_diagram.specs.Paths.{HasValue, cubes_of};
+ghost use Rattle.cube_diagram.specs.Exact.{DividesForCause};
 ghost use Rattle.cube_diagram.specs.Functions.{Keeps, count_of, value_at};
 ghost use Rattle.cube_diagram.specs.Reach.{GivesOnly, OfComparison};
 
 use crate::combine::{Tables, combine, make_room, new_tables};
 use crate::compare::{Comparison, compare};
-use crate::descent::{Part, divide, lookup};
+use crate::descent::{divide, lookup};
 use crate::entry::{entry, first_match, first_of};
+use crate::exact::divide_exactly;
 use crate::memo::Operation;
+use crate::paths::add_rows;
 use crate::table::NOTHING;
+use crate::trie::prefix_match;
 use crate::values::collect;
-use cube_alg::Piece;
+use cube_alg::{OnCube, Piece};
 use hdr_bits::{Cube, Header};
 use indexmap::IndexSet;
 use no_memory::NoMemory;
@@ -27,7 +34,7 @@ use std::marker::Model;
 /// numbers, and a number keeps its function.
 #[derive(Drop)]
 pub struct Diagrams {
-    tables: Tables,
+    pub(crate) tables: Tables,
 }
 
 impl Model for Diagrams {
@@ -99,6 +106,18 @@ impl Diagrams {
         Ok(id)
     }
 
+    /// The same for prefixes, or for pieces nearly all of which fix bits from the first one on, with `*` behind them. It
+    /// is made bit by bit, each node once, in as many steps as the pieces have bits that they fix. Pieces that leave many
+    /// bits open before ones that they fix can take twice as long for each of those.
+    pub fn prefix_match(&mut self, pieces: &[Piece]) -> Result<u32, NoMemory>
+        ensures below { IfOk result (λ r. r < count_of self.new) }
+        ensures exact { IfOk result (λ r. (h : ℕ) → value_at self.new r h ≡ value_of pieces.now h) }
+        ensures kept { Keeps self.old self.new }
+    {
+        let id = prefix_match(&mut self.tables, pieces)?;
+        Ok(id)
+    }
+
     /// The number of the function that gives 1 where the two differ, and nothing where they agree.
     pub fn difference(&mut self, a: u32, b: u32) -> Result<u32, NoMemory>
         requires first { a < count_of self.old }
@@ -120,13 +139,33 @@ impl Diagrams {
         lookup(&self.tables.table, function, header.to_bits())
     }
 
-    /// What the function gives the headers of the cube: one answer for all, or the first place at which it
+    /// What the function gives the headers of the cube: one answer for all, or the first bit at which it
     /// divides the cube, in at most 113 steps.
-    pub fn divide(&self, function: u32, cube: &Cube) -> Part
+    pub fn divide(&self, function: u32, cube: &Cube) -> OnCube<Option<u32>>
         requires { function < count_of self.now }
-        ensures { OfPart (value_at self.now function) cube.now result }
+        ensures answer { OfOnCube (λ value h. value_at self.now function (number h) ≡ value) cube.now result }
+
+        // The bit is the first `*` that matters; where all headers have one value, no `*` does.
+        ensures cause { OfPart (value_at self.now function) cube.now result }
     {
         divide(&self.tables.table, function, cube)
+    }
+
+    /// What the function gives the headers of the cube, by these headers alone: one answer wherever all of them have
+    /// it, and a bit only where two of them have different values. It takes as many steps as the function's diagram has
+    /// nodes below the cube.
+    pub fn divide_exactly(
+        &self,
+        alloc: Global,
+        function: u32,
+        cube: &Cube,
+    ) -> Result<OnCube<Option<u32>>, NoMemory>
+        requires { function < count_of self.now }
+        ensures answer { IfOk result (OfOnCube (λ value h. value_at self.now function (number h) ≡ value) cube.now) }
+        ensures cause { IfOk result (DividesForCause (value_at self.now function) cube.now) }
+    {
+        let part = divide_exactly(alloc, &self.tables.table, function, cube)?;
+        Ok(part)
     }
 
     /// How the two functions compare on the cube, in at most 113 steps.
@@ -155,6 +194,19 @@ impl Diagrams {
         Ok(values)
     }
 
+    /// The canonical rows of the function with their values, in order: disjoint cubes that hold exactly the headers with a
+    /// value, a bit `*` exactly where flipping it never changes the value, among all headers that agree with the
+    /// earlier bits. They are as many as there are ways down the function's diagram to a value.
+    pub fn rows(&self, alloc: Global, function: u32) -> Result<Vec<Piece>, NoMemory>
+        requires { function < count_of self.now }
+        ensures rows { IfOk result (λ rows. AreRows (value_at self.now function) (cubes_of rows.items)) }
+        ensures values { IfOk result (λ rows. All (HasValue (value_at self.now function)) rows.items) }
+    {
+        let mut rows = Vec::new(alloc);
+        add_rows(&self.tables.table, function, &Cube::all(), &mut rows)?;
+        Ok(rows)
+    }
+
     /// Whether the two are equal: exactly where they have one number.
     pub fn same(&self, a: u32, b: u32) -> bool
         requires first { a < count_of self.now }
@@ -163,77 +215,5 @@ impl Diagrams {
     {
         let _tables = &self.tables;
         a == b
-    }
-}
-
-#[cfg(test)]
-mod tests {
-    use super::*;
-    use std::test::Fail;
-
-    // The headers with these first bits of the destination.
-    fn to(dst: u32, length: u32) -> Result<Cube, Fail> {
-        let mask = u32::MAX.checked_shl(32 - length.min(32)).unwrap_or(0);
-        let fixed = u128::from(mask) << 80;
-        let cube = Cube::from_masks(fixed, u128::from(dst) << 80).ok_or("no prefix")?;
-        Ok(cube)
-    }
-
-    #[test]
-    fn lists_in_one_table(rt: HostRuntime) -> Result<(), Fail> {
-        let mut d = Diagrams::new(rt.alloc())?;
-        let host = d.add_entry(&[to(0x0a00_0001, 32)?], 7)?;
-        let both = d.add_entry(&[to(0x0a00_0000, 32)?, to(0x0a00_0001, 32)?], 7)?;
-        let four = d.add_entry(&[to(0x0a00_0000, 30)?], 9)?;
-        let none = d.add_entry(&[], 9)?;
-        assert_eq!(rt; none, d.nothing());
-        let list = d.first_of(&[host, four])?;
-        let behind = d.first_of(&[four, host])?;
-        assert_eq!(rt; behind, four);
-        assert_eq!(rt;
-            d.first_of(&[both, four])? == d.first_of(&[host, both, four])?,
-            true
-        );
-
-        let one = to(0x0a00_0001, 32)?.least();
-        assert_eq!(rt; d.lookup(list, &one), Some(7));
-        assert_eq!(rt; d.lookup(four, &one), Some(9));
-        assert_eq!(rt; d.lookup(host, &to(0x0a00_0002, 32)?.least()), None);
-
-        let parts = [
-            (to(0x0a00_0001, 32)?, Part::Whole { value: Some(7) }),
-            (to(0x0a00_0002, 31)?, Part::Whole { value: Some(9) }),
-            (to(0x0a00_0000, 31)?, Part::Divided { place: 31 }),
-            (to(0x0a00_0000, 24)?, Part::Divided { place: 24 }),
-            (to(0x0b00_0000, 8)?, Part::Whole { value: None }),
-        ];
-        for (cube, part) in parts {
-            assert_eq!(rt; d.divide(list, &cube), part);
-        }
-
-        let pieces = [
-            Piece {
-                cube: to(0x0a00_0001, 32)?,
-                value: 7,
-            },
-            Piece {
-                cube: to(0x0a00_0000, 30)?,
-                value: 9,
-            },
-        ];
-        assert_eq!(rt; d.first_match(&pieces)?, list);
-
-        let changed = d.difference(list, four)?;
-        assert_eq!(rt;
-            d.divide(changed, &to(0x0a00_0001, 32)?),
-            Part::Whole { value: Some(1) }
-        );
-        assert_eq!(rt;
-            d.divide(changed, &to(0x0a00_0002, 31)?),
-            Part::Whole { value: None }
-        );
-        assert_eq!(rt; d.difference(list, list)?, d.nothing());
-        assert!(rt; d.same(list, list) && !d.same(list, four));
-        Ok(())
     }
 }

@@ -9,13 +9,23 @@
 
 mod combine;
 mod compare;
+mod copied;
 mod descent;
 mod diagrams;
 mod entry;
+mod exact;
+mod least;
 mod memo;
+mod paired;
+mod paths;
+mod picked;
+mod retold;
+mod sets;
 mod table;
+mod trie;
 mod values;
+mod written;
 
 pub use compare::Comparison;
-pub use descent::Part;
 pub use diagrams::Diagrams;
+pub use paired::ValuePair;

@@ -9,10 +9,6 @@ mod interfaces;
 mod lists;
 mod port_tests;
 mod routes;
-#[cfg(test)]
-mod shapes;
-#[cfg(test)]
-mod tests;
 
 use access_lists::same_access_lists;
 pub use beyond_input::same_beyond_input;

@@ -2,7 +2,8 @@ ghost use Rattle.std.specs.Prelude.{◌<◌, IfOk};
 ghost use Rattle.hdr_bits.specs.declared.header.Header.{Header};
 ghost use Rattle.hdr_bits.specs.HeaderBits.{number, IsHeader};
 ghost use Rattle.cube_diagram.specs.Functions.{Keeps, count_of, value_at};
-ghost use Rattle.device_fates.specs.Fates.{Grows, HasFate};
+ghost use Rattle.hdr_bits.specs.Lists.{Extends};
+ghost use Rattle.device_fates.specs.Fates.{HasFate};
 
 use crate::fates::Fates;
 use crate::pieces::pieces_of;
@@ -25,10 +26,10 @@ pub fn add_device(
 ) -> Result<u32, NoMemory>
     ensures below { IfOk result (λ r. r < count_of diagrams.new) }
     ensures kept { Keeps diagrams.old diagrams.new }
-    ensures grows { Grows fates.old fates.new }
+    ensures grows { Extends fates.old fates.new }
     ensures exact { IfOk result (λ r. (h : Header) → IsHeader h → HasFate config.now fates.new (value_at diagrams.new r (number h)) h.dst) }
 {
     let pieces = pieces_of(alloc, fates, config)?;
-    let function = diagrams.first_match(&pieces)?;
+    let function = diagrams.prefix_match(&pieces)?;
     Ok(function)
 }

@@ -2,19 +2,21 @@ ghost use Rattle.std.specs.Prelude.{◌≡◌, [], Some, slice_get, IfOk, IfSome
 ghost use Rattle.std.specs.Option.{option_copied};
 
 use crate::fate::Fate;
-use crate::key::{FateKey, key_of};
+use crate::hash::hash_of;
 use crate::same::same_fate;
 use net_types::NoMemory;
 use std::alloc::Global;
 use std::collections::HashMap;
 use std::marker::Model;
 
-/// The fates that were met, each with a number: its place. Equal fates of all devices share one number, and a number
-/// keeps its fate.
+/// The fates that were met, each with a number: its position. Equal fates of all devices share one number, and a number
+/// keeps its fate. Of two fates with one hash the later one drives out the other, which gets a new number where it is
+/// met again.
 #[derive(Drop)]
 pub struct Fates {
     fates: Vec<Fate>,
-    numbers: HashMap<FateKey, u32>,
+    /// The number of a fate by its hash.
+    numbers: HashMap<u64, u32>,
 }
 
 impl Model for Fates {
@@ -27,7 +29,7 @@ impl Model for Fates {
 }
 
 impl Fates {
-    ghost use Rattle.device_fates.specs.Fates.{Grows};
+    ghost use Rattle.hdr_bits.specs.Lists.{Extends};
 
     /// No fates.
     pub fn new(alloc: Global) -> Fates
@@ -47,25 +49,25 @@ impl Fates {
     }
 
     /// The number of the fate, which is added where it isn't there.
-    pub(crate) fn number_of(&mut self, alloc: Global, fate: Fate) -> Result<u32, NoMemory>
+    pub(crate) fn number_of(&mut self, fate: Fate) -> Result<u32, NoMemory>
         ensures number { IfOk result (λ number. slice_get self.new number ≡ Some fate) }
-        ensures grows { Grows self.old self.new }
+        ensures grows { Extends self.old self.new }
     {
-        let key = key_of(alloc, &fate)?;
-        if let Some(number) = self.known(&key, &fate) {
+        let hash = hash_of(&fate);
+        if let Some(number) = self.known(hash, &fate) {
             return Ok(number);
         }
         let number = u32::try_from(self.fates.len()).map_err(|_| NoMemory)?;
         self.fates.push(fate)?;
-        self.numbers.insert(key, number)?;
+        self.numbers.insert(hash, number)?;
         Ok(number)
     }
 
-    /// The number of the fate, if it has one; the key is that of the fate.
-    fn known(&self, key: &FateKey, fate: &Fate) -> Option<u32>
+    /// The number of the fate, if it has one; the hash is that of the fate.
+    fn known(&self, hash: u64, fate: &Fate) -> Option<u32>
         ensures { IfSome result (λ number. slice_get self.now number ≡ Some fate.now) }
     {
-        let number = *self.numbers.get(key)?;
+        let number = *self.numbers.get(&hash)?;
         let there = self.get(number)?;
         same_fate(there, fate).then_some(number)
     }

@@ -4,7 +4,8 @@ ghost use Rattle.hdr_bits.specs.declared.header.Header.{Header};
 ghost use Rattle.hdr_bits.specs.HeaderBits.{number, IsHeader};
 ghost use Rattle.cube_alg.specs.Pieces.{value_of};
 ghost use Rattle.device_fates.specs.declared.fate.Fate.TheVariants.{Sent};
-ghost use Rattle.device_fates.specs.Fates.{Grows, HasFate};
+ghost use Rattle.hdr_bits.specs.Lists.{Extends};
+ghost use Rattle.device_fates.specs.Fates.{HasFate};
 ghost use Rattle.fib_lookup.specs.Choices.{choices_in};
 ghost use Rattle.device_fates.specs.Pieces.{in_any, own_fate, Give};
 
@@ -25,12 +26,12 @@ pub(crate) fn pieces_of(
     fates: &mut Fates,
     config: &Config,
 ) -> Result<Vec<Piece>, NoMemory>
-    ensures grows { Grows fates.old fates.new }
+    ensures grows { Extends fates.old fates.new }
     ensures exact { IfOk result (λ r. (h : Header) → IsHeader h → HasFate config.now fates.new (value_of r.items (number h)) h.dst) }
 {
     let interfaces = config.interfaces.as_slice();
     let mut pieces = Vec::new(alloc);
-    let dropped = fates.number_of(alloc, Fate::Dropped)?;
+    let dropped = fates.number_of(Fate::Dropped)?;
     add_pieces(&dropped_cubes(alloc, interfaces)?, dropped, &mut pieces)?;
     let mut own = own_pieces(alloc, fates, interfaces)?;
     pieces.append(&mut own)?;
@@ -56,14 +57,14 @@ fn own_pieces(
     fates: &mut Fates,
     interfaces: &[Interface],
 ) -> Result<Vec<Piece>, NoMemory>
-    ensures grows { Grows fates.old fates.new }
+    ensures grows { Extends fates.old fates.new }
     ensures exact { IfOk result (λ r. Give fates.new r.items (λ h. own_fate interfaces.now (h / 2 ^ 80))) }
 {
     let mut pieces = Vec::new(alloc);
     for (i, interface) in interfaces.iter().enumerate() {
         let cubes = own_cubes(alloc, interface)?;
         let position = number(i)?;
-        let own = fates.number_of(alloc, Fate::Own { position })?;
+        let own = fates.number_of(Fate::Own { position })?;
         add_pieces(&cubes, own, &mut pieces)?;
     }
     Ok(pieces)
@@ -75,12 +76,12 @@ fn sent_pieces(
     fates: &mut Fates,
     parts: Vec<(Cube, List<HopForm>)>,
 ) -> Result<Vec<Piece>, NoMemory>
-    ensures grows { Grows fates.old fates.new }
+    ensures grows { Extends fates.old fates.new }
     ensures exact { IfOk result (λ r. Give fates.new r.items (λ h. option_map Sent (choices_in parts.items h))) }
 {
     let mut pieces = Vec::with_capacity(alloc, parts.len())?;
     for (cube, choices) in parts {
-        let sent = fates.number_of(alloc, Fate::Sent { choices })?;
+        let sent = fates.number_of(Fate::Sent { choices })?;
         pieces.push(Piece { cube, value: sent })?;
     }
     Ok(pieces)

@@ -8,7 +8,7 @@ use Rattle.std.proofs.lemmas.List.Quantifiers.{Any-push}
 use Rattle.std.proofs.lemmas.List.Kept.{AllPairs-cons}
 use Rattle.hdr_bits.specs.declared.cube.Cube.{Cube}
 use Rattle.hdr_bits.specs.HeaderBits.{number}
-use Rattle.hdr_bits.specs.Bits.{bit}
+use Rattle.hdr_bits.specs.Bits.{bit_of}
 use Rattle.hdr_bits.specs.CubeBits.{IsIn, IsStar}
 use Rattle.cube_alg.specs.Pairs.{IsInside}
 use Rattle.cube_alg.proofs.CutLemmas.{Halves, one_of, in_all}
@@ -66,9 +66,9 @@ module _ (w : World) (p : Place) where
       record {
         inside = All-append In first second (All-weaker (λ x. IsInside x.cube low) In (λ x f h i. ((s.zero_side h).0 (f h i)).0) first a.inside) (All-weaker (λ x. IsInside x.cube high) In (λ x f h i. ((s.one_side h).0 (f h i)).0) second b.inside);
         apart = pairs_append first second a.apart b.apart (All-weaker (λ x. IsInside x.cube low) (λ x. All (AreApartEntries x) second) (λ x f. All-weaker (λ y. IsInside y.cube high) (AreApartEntries x) (λ y g h i j. not_both h (f h i) (g h j)) second b.inside) first a.inside);
-        covers = λ n m. elim (cases_eq (bit n k) 0) [
+        covers = λ n m. elim (cases_eq (bit_of n k) 0) [
           | inl e ↦ any_left (λ x. IsIn x.cube n) first second (a.covers n ((s.zero_side n).1 (m, e)))
-          | inr e ↦ any_right (λ x. IsIn x.cube n) first second (b.covers n ((s.one_side n).1 (m, (let l = bit_at-lt n (111 - k) in one_of (bit n k) l e))))
+          | inr e ↦ any_right (λ x. IsIn x.cube n) first second (b.covers n ((s.one_side n).1 (m, (let l = bit_at-lt n (111 - k) in one_of (bit_of n k) l e))))
         ];
         each = All-append (IsEntry w p) first second a.each b.each;
       }

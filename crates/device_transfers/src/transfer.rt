@@ -1,16 +1,16 @@
 //! Transfers, listed from the answers for cubes.
 
 ghost use Rattle.std.specs.Prelude.{OnOk};
-ghost use Rattle.transfer_rel.specs.CubeMoves.{world_in};
+ghost use Rattle.net_forms.specs.Worlds.{world_in};
 ghost use Rattle.device_transfers.specs.Transfers.{AddsEntries};
 
 use crate::moves::{entry_of, moves_of};
 use crate::order::moves_in_order;
-use cube_alg::split;
+use cube_alg::{OnCube, split};
 use hdr_bits::{Cube, Header};
 use net_types::{List, Move, NoMemory, Place};
 use std::alloc::Global;
-use transfer_rel::{CubeMoves, Prepared, StampMove, Version};
+use transfer_rel::{Prepared, StampMove, Version, moves_on};
 
 /// Headers with which a device does the same.
 #[derive(Drop)]
@@ -35,7 +35,8 @@ impl Transfer {
     ghost use Rattle.std.specs.List.Sorted.{IsStrictlySortedBy};
     ghost use Rattle.net_types.specs.World.{World};
     ghost use Rattle.net_types.specs.Moves.{moves};
-    ghost use Rattle.transfer_rel.specs.CubeMoves.{world_in, SameSet};
+    ghost use Rattle.net_forms.specs.Worlds.{world_in};
+    ghost use Rattle.transfer_rel.specs.CubeMoves.{SameSet};
     ghost use Rattle.device_transfers.specs.MoveOrder.{move_cmp};
     ghost use Rattle.device_transfers.specs.Transfers.{AreApartEntries, HoldEveryHeader, IsEntry};
 
@@ -92,12 +93,15 @@ fn add_entries(
 ) -> Result<(), NoMemory>
     ensures { OnOk result (AddsEntries (world_in prepared.now version) place cube.now entries.old entries.new) }
 {
-    match prepared.moves_on(alloc, version, place, cube)? {
-        CubeMoves::Same { moves } => {
-            entries.push(TransferEntry { cube: *cube, moves })?;
+    match moves_on(alloc, prepared, version, place, cube)? {
+        OnCube::All { answer } => {
+            entries.push(TransferEntry {
+                cube: *cube,
+                moves: answer,
+            })?;
             Ok(())
         }
-        CubeMoves::Divides { place: bit } => {
+        OnCube::Divides { bit } => {
             let (low, high) = split(cube, bit);
             add_entries(alloc, prepared, version, place, &low, entries)?;
             add_entries(alloc, prepared, version, place, &high, entries)?;

@@ -14,45 +14,45 @@ use Rattle.net_types.specs.declared.network.State.{State}
 use Rattle.net_types.specs.Moves.{moves}
 use Rattle.net_types.specs.Walks.{states_after, next_states, next_state, state_at, label}
 use Rattle.net_types.proofs.Members.{in_one, in_flat_map, in_filter_map}
-use Rattle.transfer_rel.specs.CubeMoves.{Worlds}
+use Rattle.net_forms.specs.Worlds.{Worlds}
 use Rattle.region_walk.proofs.TraceLemmas.{same_label}
 use Rattle.difference_reach.specs.declared.ways.Way.{Way}
-use Rattle.difference_reach.specs.declared.survey.Stop.{Stop}
-use Rattle.difference_reach.specs.Stops.{IsFree, IsStop, AreStops}
+use Rattle.difference_reach.specs.declared.survey.Outlook.{Outlook}
+use Rattle.difference_reach.specs.Outlooks.{IsFree, IsOutlook, AreOutlooks}
 use Rattle.difference_reach.specs.Growth.{LeadsFree, IsPassed, AreSettled}
 use Rattle.difference_reach.specs.Closed.{Avoids, IsClosed}
 use Rattle.difference_reach.proofs.Kept.{free_before}
 
--- a stop of the place that passes the header
+-- a outlook of the place that passes the header
 record Passes (ws : Worlds) (f g : Functions) (places : List Place) (numbers : List ℕ) (p : Place) (h : Header) : Type 0 where
-  stop : Stop
-  stop_is : IsStop ws f places p stop
-  passed : IsPassed g numbers stop h
+  outlook : Outlook
+  outlook_is : IsOutlook ws f places p outlook
+  passed : IsPassed g numbers outlook h
 
-module _ (ws : Worlds) (f g : Functions) (places : List Place) (stops : List Stop) (numbers : List ℕ) (are : AreStops ws f places stops) (kept : Keeps f g) (settled : AreSettled g stops numbers) where
+module _ (ws : Worlds) (f g : Functions) (places : List Place) (outlooks : List Outlook) (numbers : List ℕ) (are : AreOutlooks ws f places outlooks) (kept : Keeps f g) (settled : AreSettled g outlooks numbers) where
   passes : (p : Place) (h : Header) → Avoids g places numbers p h → Passes ws f g places numbers p h
   passes p h a =
       let s = settled a.has.index a.function a.has.function_there in
-      let at = are a.has.index s.stop s.stop_there in
+      let at = are a.has.index s.outlook s.outlook_there in
       let same_place : at.place ≡ p = some_one (sym at.there ∙ a.has.place_there) in
       let same_function : a.function ≡ s.function = some_one (sym a.has.function_there ∙ s.function_there) in
       record {
-        stop = s.stop;
-        stop_is = subst (λ q. IsStop ws f places q s.stop) same_place at.stop_is;
+        outlook = s.outlook;
+        outlook_is = subst (λ q. IsOutlook ws f places q s.outlook) same_place at.outlook_is;
         passed = s.settled h a.valid (subst (λ n. IsFree g n h) same_function a.free);
       }
     where
       some_one : {A : Type 0} {x y : A} → Some x ≡ Some y → x ≡ y
       some_one e = cc
 
-  own_free : (p : Place) (h : Header) (k : Passes ws f g places numbers p h) → IsFree f k.stop.own h
-  own_free p h k = free_before f g k.stop.own h kept k.stop_is.below k.passed.own
+  own_free : (p : Place) (h : Header) (k : Passes ws f g places numbers p h) → IsFree f k.outlook.own h
+  own_free p h k = free_before f g k.outlook.own h kept k.outlook_is.below k.passed.own
 
   goes : (p q : Place) (h x : Header) → Avoids g places numbers p h → Contains (moves ws.old p h) (Go q x) → Avoids g places numbers q x
   goes p q h x a m =
       let k = passes p h a in
-      let on = k.stop_is.goes h a.valid (own_free p h k) q x m in
-      let led = All-contains (λ (way : Way). IsIn way.cube (number h) → LeadsFree g numbers way h) k.stop.ways.items on.way k.passed.ways on.among on.inside in
+      let on = k.outlook_is.goes h a.valid (own_free p h k) q x m in
+      let led = All-contains (λ (way : Way). IsIn way.cube (number h) → LeadsFree g numbers way h) k.outlook.ways.items on.way k.passed.ways on.among on.inside in
       record {
         function = led.function;
         has = record { index = on.way.next; place_there = on.next; function_there = led.there };
@@ -62,7 +62,7 @@ module _ (ws : Worlds) (f g : Functions) (places : List Place) (stops : List Sto
 
   pub closed : IsClosed ws g places numbers
   closed = record {
-    agree = λ p h a. let k = passes p h a in k.stop_is.agree h a.valid (own_free p h k);
+    agree = λ p h a. let k = passes p h a in k.outlook_is.agree h a.valid (own_free p h k);
     goes = goes;
   }
 

@@ -9,7 +9,7 @@ use Rattle.cube_diagram.specs.Functions.{Functions, Keeps, value_at}
 use Rattle.cube_diagram.specs.Entries.{first_value, cubes_value}
 use Rattle.difference_reach.specs.declared.grow.Parts.{Parts}
 use Rattle.difference_reach.specs.Ways.{IsOutside}
-use Rattle.difference_reach.specs.Stops.{IsFree}
+use Rattle.difference_reach.specs.Outlooks.{IsFree}
 use Rattle.difference_reach.specs.Growth.{AreBelow, IsMissed}
 use Rattle.difference_reach.proofs.Outside.{outside_left, outside_last, outside_of_value}
 use Rattle.difference_reach.proofs.Kept.{first_kept}

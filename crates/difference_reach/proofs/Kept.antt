@@ -11,9 +11,9 @@ use Rattle.cube_alg.specs.Stamps.{applied}
 use Rattle.cube_diagram.specs.Functions.{Functions, Keeps, count_of, value_at}
 use Rattle.cube_diagram.specs.Entries.{first_value}
 use Rattle.difference_reach.specs.declared.ways.Way.{Way}
-use Rattle.difference_reach.specs.declared.survey.Stop.{Stop}
-use Rattle.difference_reach.specs.Stops.{IsFree}
-use Rattle.difference_reach.specs.Growth.{AreBelow, AreStopsBelow, LeadsFree, IsPassed, IsSettledAt}
+use Rattle.difference_reach.specs.declared.survey.Outlook.{Outlook}
+use Rattle.difference_reach.specs.Outlooks.{IsFree}
+use Rattle.difference_reach.specs.Growth.{AreBelow, AreOutlooksBelow, LeadsFree, IsPassed, IsSettledAt}
 
 pub keeps_same : (f : Functions) → Keeps f f
 keeps_same f = record { count = omega arith; value = λ i l h. refl }
@@ -29,10 +29,10 @@ below_kept f g numbers k a =
     let c = k.count in
     All-weaker (λ i. i < count_of f) (λ i. i < count_of g) (λ i l. omega (arith, c, l)) numbers a
 
-pub stops_kept : (f g : Functions) (stops : List Stop) → Keeps f g → AreStopsBelow f stops → AreStopsBelow g stops
-stops_kept f g stops k a =
+pub outlooks_kept : (f g : Functions) (outlooks : List Outlook) → Keeps f g → AreOutlooksBelow f outlooks → AreOutlooksBelow g outlooks
+outlooks_kept f g outlooks k a =
     let c = k.count in
-    All-weaker (λ (s : Stop). s.own < count_of f) (λ s. s.own < count_of g) (λ s l. omega (arith, c, l)) stops a
+    All-weaker (λ (s : Outlook). s.own < count_of f) (λ s. s.own < count_of g) (λ s l. omega (arith, c, l)) outlooks a
 
 pub below_at : (f : Functions) (numbers : List ℕ) (i function : ℕ) → AreBelow f numbers → slice_get numbers i ≡ Some function → function < count_of f
 below_at f numbers i function a e =
@@ -58,23 +58,23 @@ leads_kept f g numbers way h k a l = record {
   free = free_kept f g l.function (applied way.stamp h) k (below_at f numbers way.next l.function a l.there) l.free;
 }
 
-pub passed_kept : (f g : Functions) (numbers : List ℕ) (stop : Stop) (h : Header) → Keeps f g → AreBelow f numbers → stop.own < count_of f → IsPassed f numbers stop h → IsPassed g numbers stop h
-passed_kept f g numbers stop h k a l p = record {
-  own = free_kept f g stop.own h k l p.own;
-  ways = All-weaker (λ (way : Way). IsIn way.cube (number h) → LeadsFree f numbers way h) (λ (way : Way). IsIn way.cube (number h) → LeadsFree g numbers way h) (λ way led i. leads_kept f g numbers way h k a (led i)) stop.ways.items p.ways;
+pub passed_kept : (f g : Functions) (numbers : List ℕ) (outlook : Outlook) (h : Header) → Keeps f g → AreBelow f numbers → outlook.own < count_of f → IsPassed f numbers outlook h → IsPassed g numbers outlook h
+passed_kept f g numbers outlook h k a l p = record {
+  own = free_kept f g outlook.own h k l p.own;
+  ways = All-weaker (λ (way : Way). IsIn way.cube (number h) → LeadsFree f numbers way h) (λ (way : Way). IsIn way.cube (number h) → LeadsFree g numbers way h) (λ way led i. leads_kept f g numbers way h k a (led i)) outlook.ways.items p.ways;
 }
 
-stop_below : (f : Functions) (stops : List Stop) (i : ℕ) (stop : Stop) → AreStopsBelow f stops → slice_get stops i ≡ Some stop → stop.own < count_of f
-stop_below f stops i stop a e =
-    subst (λ (s : Stop). s.own < count_of f) (get_or_from_slice_get stops i stop stop e) (All-get_or (λ (s : Stop). s.own < count_of f) stops i stop (slice_get_within stops i stop e) a)
+outlook_below : (f : Functions) (outlooks : List Outlook) (i : ℕ) (outlook : Outlook) → AreOutlooksBelow f outlooks → slice_get outlooks i ≡ Some outlook → outlook.own < count_of f
+outlook_below f outlooks i outlook a e =
+    subst (λ (s : Outlook). s.own < count_of f) (get_or_from_slice_get outlooks i outlook outlook e) (All-get_or (λ (s : Outlook). s.own < count_of f) outlooks i outlook (slice_get_within outlooks i outlook e) a)
 
-pub settled_kept : (f g : Functions) (stops : List Stop) (numbers : List ℕ) (i : ℕ) → Keeps f g → AreBelow f numbers → AreStopsBelow f stops → IsSettledAt f stops numbers i → IsSettledAt g stops numbers i
-settled_kept f g stops numbers i k a b s = record {
-  stop = s.stop;
+pub settled_kept : (f g : Functions) (outlooks : List Outlook) (numbers : List ℕ) (i : ℕ) → Keeps f g → AreBelow f numbers → AreOutlooksBelow f outlooks → IsSettledAt f outlooks numbers i → IsSettledAt g outlooks numbers i
+settled_kept f g outlooks numbers i k a b s = record {
+  outlook = s.outlook;
   function = s.function;
-  stop_there = s.stop_there;
+  outlook_there = s.outlook_there;
   function_there = s.function_there;
-  settled = λ h v e. passed_kept f g numbers s.stop h k a (stop_below f stops i s.stop b s.stop_there) (s.settled h v (free_before f g s.function h k (below_at f numbers i s.function a s.function_there) e));
+  settled = λ h v e. passed_kept f g numbers s.outlook h k a (outlook_below f outlooks i s.outlook b s.outlook_there) (s.settled h v (free_before f g s.function h k (below_at f numbers i s.function a s.function_there) e));
 }
 
 both_true : (s r : Bool) → (s && r) ≡ true → (s ≡ true) × (r ≡ true)
@@ -82,23 +82,23 @@ both_true true r e = (refl, e)
 both_true false r e = absurd (false≢true e)
 
 -- one more place of a sweep
-pub sweep_turn : (f g : Functions) (stops : List Stop) (numbers new_numbers : List ℕ) (index : ℕ) (s r : Bool) → Keeps f g → AreBelow f numbers → AreStopsBelow f stops → (s ≡ true → (i : ℕ) → i < index → IsSettledAt f stops numbers i) → (r ≡ true → new_numbers ≡ numbers) → (r ≡ true → IsSettledAt g stops new_numbers index) → (s && r) ≡ true → (i : ℕ) → i < index + 1 → IsSettledAt g stops new_numbers i
-sweep_turn f g stops numbers new_numbers index s r k a b before same now e i l =
+pub sweep_turn : (f g : Functions) (outlooks : List Outlook) (numbers new_numbers : List ℕ) (index : ℕ) (s r : Bool) → Keeps f g → AreBelow f numbers → AreOutlooksBelow f outlooks → (s ≡ true → (i : ℕ) → i < index → IsSettledAt f outlooks numbers i) → (r ≡ true → new_numbers ≡ numbers) → (r ≡ true → IsSettledAt g outlooks new_numbers index) → (s && r) ≡ true → (i : ℕ) → i < index + 1 → IsSettledAt g outlooks new_numbers i
+sweep_turn f g outlooks numbers new_numbers index s r k a b before same now e i l =
     let both = both_true s r e in
     elim (cases_eq i index) [
-      | inl at ↦ subst (λ j. IsSettledAt g stops new_numbers j) (sym at) (now both.1)
-      | inr other ↦ subst (λ ns. IsSettledAt g stops ns i) (sym (same both.1)) (settled_kept f g stops numbers i k a b (before both.0 i (omega (arith, l, other))))
+      | inl at ↦ subst (λ j. IsSettledAt g outlooks new_numbers j) (sym at) (now both.1)
+      | inr other ↦ subst (λ ns. IsSettledAt g outlooks ns i) (sym (same both.1)) (settled_kept f g outlooks numbers i k a b (before both.0 i (omega (arith, l, other))))
     ]
 
 -- a place whose function stayed
-pub settled_at : (f g : Functions) (stops : List Stop) (numbers : List ℕ) (index : ℕ) (stop : Stop) (after : ℕ) → Keeps f g → AreBelow f numbers → AreStopsBelow f stops → slice_get stops index ≡ Some stop → slice_get numbers index ≡ Some after → ((h : Header) → IsHeader h → IsFree g after h → IsPassed f numbers stop h) → IsSettledAt g stops numbers index
-settled_at f g stops numbers index stop after k a b s n p = record {
-  stop = stop;
+pub settled_at : (f g : Functions) (outlooks : List Outlook) (numbers : List ℕ) (index : ℕ) (outlook : Outlook) (after : ℕ) → Keeps f g → AreBelow f numbers → AreOutlooksBelow f outlooks → slice_get outlooks index ≡ Some outlook → slice_get numbers index ≡ Some after → ((h : Header) → IsHeader h → IsFree g after h → IsPassed f numbers outlook h) → IsSettledAt g outlooks numbers index
+settled_at f g outlooks numbers index outlook after k a b s n p = record {
+  outlook = outlook;
   function = after;
-  stop_there = s;
+  outlook_there = s;
   function_there = n;
-  settled = λ h v e. passed_kept f g numbers stop h k a (stop_below f stops index stop b s) (p h v e);
+  settled = λ h v e. passed_kept f g numbers outlook h k a (outlook_below f outlooks index outlook b s) (p h v e);
 }
 
-pub owns_below : (f : Functions) (stops : List Stop) → AreStopsBelow f stops → AreBelow f (map (λ (stop : Stop). stop.own) stops)
-owns_below f stops a = All-map (λ i. i < count_of f) (λ (stop : Stop). stop.own) stops a
+pub owns_below : (f : Functions) (outlooks : List Outlook) → AreOutlooksBelow f outlooks → AreBelow f (map (λ (outlook : Outlook). outlook.own) outlooks)
+owns_below f outlooks a = All-map (λ i. i < count_of f) (λ (outlook : Outlook). outlook.own) outlooks a

@@ -6,7 +6,7 @@ use Rattle.std.proofs.lemmas.List.Elements.{All-nil, All-cons, All-weaker, All-c
 use Rattle.hdr_bits.specs.declared.header.Header.{Header}
 use Rattle.hdr_bits.specs.declared.cube.Cube.{Cube}
 use Rattle.hdr_bits.specs.HeaderBits.{number}
-use Rattle.hdr_bits.specs.CubeBits.{place, IsIn, IsStar}
+use Rattle.hdr_bits.specs.CubeBits.{digit_at, IsIn, IsStar}
 use Rattle.hdr_bits.proofs.Masks.{in_from_mask, mask_from_in}
 use Rattle.cube_alg.proofs.ValueLemmas.{test_in, test_out}
 use Rattle.cube_diagram.specs.Entries.{cubes_value}
@@ -25,7 +25,7 @@ star_agrees (Some b) m e = absurd cc
 
 -- a cube of no digits has each header
 pub in_all : (all : Cube) → ((k : ℕ) → k < 112 → IsStar all k) → (n : ℕ) → IsIn all n
-in_all all stars n k l = star_agrees (place all k) _ (stars k l)
+in_all all stars n k l = star_agrees (digit_at all k) _ (stars k l)
 
 pub none_outside : (cubes : List Cube) (h : Header) → length cubes ≡ 0 → IsOutside cubes h
 none_outside cubes h e k d l = absurd (omega (arith, e, l))

@@ -8,7 +8,7 @@ use Rattle.hdr_bits.specs.HeaderBits.{number, IsHeader}
 use Rattle.hdr_bits.specs.CubeBits.{IsIn, IsStar}
 use Rattle.net_types.specs.declared.network.Place.{Place}
 use Rattle.net_types.specs.World.{World}
-use Rattle.transfer_rel.specs.CubeMoves.{Worlds}
+use Rattle.net_forms.specs.Worlds.{Worlds}
 use Rattle.difference_reach.specs.declared.ways.Way.{Way}
 use Rattle.difference_reach.specs.Ways.{IsOutside, MovesAgree, IsSorted, IsFollowed, GoOnBy, KeepsPlaces, KeepsWays}
 use Rattle.difference_reach.proofs.Outside.{in_or_not, in_all, outside_left, outside_last}

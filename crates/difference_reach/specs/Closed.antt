@@ -6,9 +6,9 @@ use Rattle.cube_diagram.specs.Functions.{Functions}
 use Rattle.net_types.specs.declared.network.Move.TheVariants.{Go}
 use Rattle.net_types.specs.declared.network.Place.{Place}
 use Rattle.net_types.specs.Moves.{moves}
-use Rattle.transfer_rel.specs.CubeMoves.{Worlds}
+use Rattle.net_forms.specs.Worlds.{Worlds}
 use Rattle.difference_reach.specs.Ways.{MovesAgree}
-use Rattle.difference_reach.specs.Stops.{IsFree}
+use Rattle.difference_reach.specs.Outlooks.{IsFree}
 
 -- this is the number of the place's function
 pub record HasFunction (places : List Place) (numbers : List ℕ) (p : Place) (function : ℕ) : Type 0 where

@@ -7,12 +7,12 @@ use Rattle.cube_alg.specs.Stamps.{applied}
 use Rattle.cube_diagram.specs.Functions.{Functions, count_of, value_at}
 use Rattle.cube_diagram.specs.Entries.{first_value}
 use Rattle.difference_reach.specs.declared.ways.Way.{Way}
-use Rattle.difference_reach.specs.declared.survey.Stop.{Stop}
+use Rattle.difference_reach.specs.declared.survey.Outlook.{Outlook}
 use Rattle.difference_reach.specs.declared.grow.Parts.{Parts}
 use Rattle.difference_reach.specs.declared.grow.Added.{Added}
 use Rattle.difference_reach.specs.declared.grow.Added.TheVariants as added
 use Rattle.difference_reach.specs.Ways.{IsOutside}
-use Rattle.difference_reach.specs.Stops.{IsFree}
+use Rattle.difference_reach.specs.Outlooks.{IsFree}
 
 -- all these are numbers of functions
 abbrev pub AreBelow : Functions → List ℕ → Type 0
@@ -44,27 +44,27 @@ pub record IsMissed (fs : Functions) (parts : Parts) (h : Header) : Type 0 where
 abbrev pub MissesFewer : Functions → Parts → Parts → Type 0
 MissesFewer fs old new = (h : Header) → IsMissed fs new h → IsMissed fs old h
 
--- each of the ways of a stop leads the header to where it has no value, and so does the stop's own function give it none
-pub record IsPassed (fs : Functions) (numbers : List ℕ) (stop : Stop) (h : Header) : Type 0 where
-  pub own : IsFree fs stop.own h
-  pub ways : All (λ way. IsIn way.cube (number h) → LeadsFree fs numbers way h) stop.ways.items
+-- each of the ways of a outlook leads the header to where it has no value, and so does the outlook's own function give it none
+pub record IsPassed (fs : Functions) (numbers : List ℕ) (outlook : Outlook) (h : Header) : Type 0 where
+  pub own : IsFree fs outlook.own h
+  pub ways : All (λ way. IsIn way.cube (number h) → LeadsFree fs numbers way h) outlook.ways.items
 
--- a header to which the function gives no value is passed by the stop
-abbrev pub IsSettled : Functions → List ℕ → Stop → ℕ → Type 0
-IsSettled fs numbers stop function = (h : Header) → IsHeader h → IsFree fs function h → IsPassed fs numbers stop h
+-- a header to which the function gives no value is passed by the outlook
+abbrev pub IsSettled : Functions → List ℕ → Outlook → ℕ → Type 0
+IsSettled fs numbers outlook function = (h : Header) → IsHeader h → IsFree fs function h → IsPassed fs numbers outlook h
 
--- so it is for the stop with this number
-pub record IsSettledAt (fs : Functions) (stops : List Stop) (numbers : List ℕ) (index : ℕ) : Type 0 where
-  pub stop : Stop
+-- so it is for the outlook with this number
+pub record IsSettledAt (fs : Functions) (outlooks : List Outlook) (numbers : List ℕ) (index : ℕ) : Type 0 where
+  pub outlook : Outlook
   pub function : ℕ
-  pub stop_there : slice_get stops index ≡ Some stop
+  pub outlook_there : slice_get outlooks index ≡ Some outlook
   pub function_there : slice_get numbers index ≡ Some function
-  pub settled : IsSettled fs numbers stop function
+  pub settled : IsSettled fs numbers outlook function
 
 -- so it is for each number
-abbrev pub AreSettled : Functions → List Stop → List ℕ → Type 0
-AreSettled fs stops numbers = (i function : ℕ) → slice_get numbers i ≡ Some function → IsSettledAt fs stops numbers i
+abbrev pub AreSettled : Functions → List Outlook → List ℕ → Type 0
+AreSettled fs outlooks numbers = (i function : ℕ) → slice_get numbers i ≡ Some function → IsSettledAt fs outlooks numbers i
 
--- the own functions of these stops are numbers of functions
-abbrev pub AreStopsBelow : Functions → List Stop → Type 0
-AreStopsBelow fs stops = All (λ stop. stop.own < count_of fs) stops
+-- the own functions of these outlooks are numbers of functions
+abbrev pub AreOutlooksBelow : Functions → List Outlook → Type 0
+AreOutlooksBelow fs outlooks = All (λ outlook. outlook.own < count_of fs) outlooks

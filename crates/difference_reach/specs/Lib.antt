@@ -1,4 +1,4 @@
 pub mod Ways
-pub mod Stops
+pub mod Outlooks
 pub mod Growth
 pub mod Closed

@@ -10,7 +10,8 @@ use Rattle.net_types.specs.declared.network.Place.{Place}
 use Rattle.net_types.specs.World.{World}
 use Rattle.net_types.specs.Moves.{moves}
 use Rattle.transfer_rel.specs.declared.moves.NextPlace.{NextPlace}
-use Rattle.transfer_rel.specs.CubeMoves.{Worlds, SameSet, GoesBy}
+use Rattle.net_forms.specs.Worlds.{Worlds}
+use Rattle.transfer_rel.specs.CubeMoves.{SameSet, GoesBy}
 use Rattle.difference_reach.specs.declared.ways.Way.{Way}
 
 -- the header is in none of the cubes

@@ -6,13 +6,13 @@ ghost use Rattle.hdr_bits.specs.HeaderBits.{number, IsHeader};
 ghost use Rattle.hdr_bits.specs.CubeBits.{IsIn};
 ghost use Rattle.cube_alg.specs.Stamps.{applied};
 ghost use Rattle.cube_diagram.specs.Functions.{Keeps, count_of, value_at};
-ghost use Rattle.difference_reach.specs.Stops.{IsFree};
+ghost use Rattle.difference_reach.specs.Outlooks.{IsFree};
 ghost use Rattle.difference_reach.specs.Growth.{AreBelow, LeadsFree, OfAdded, IsMissed, IsPassed, MissesFewer};
 
-use crate::survey::{MARK, Stop};
+use crate::survey::{MARK, Outlook};
 use crate::ways::Way;
-use cube_alg::Stamp;
-use cube_diagram::{Diagrams, Part};
+use cube_alg::{OnCube, Stamp};
+use cube_diagram::Diagrams;
 use hdr_bits::Cube;
 use net_types::NoMemory;
 use std::alloc::Global;
@@ -38,17 +38,17 @@ pub(crate) fn grown(
     alloc: Global,
     table: &mut Diagrams,
     numbers: &[u32],
-    stop: &Stop,
+    outlook: &Outlook,
     function: u32,
 ) -> Result<u32, NoMemory>
     requires numbers { AreBelow table.old numbers.now }
-    requires own { stop.now.own < count_of table.old }
+    requires own { outlook.now.own < count_of table.old }
     requires function { function < count_of table.old }
     ensures below { IfOk result (λ r. r < count_of table.new) }
     ensures kept { Keeps table.old table.new }
-    ensures passed { IfOk result (λ r. (h : Header) → IsHeader h → IsFree table.new r h → IsPassed table.old numbers.now stop.now h) }
+    ensures passed { IfOk result (λ r. (h : Header) → IsHeader h → IsFree table.new r h → IsPassed table.old numbers.now outlook.now h) }
 {
-    let parts = parts_of(alloc, table, numbers, stop, function)?;
+    let parts = parts_of(alloc, table, numbers, outlook, function)?;
     let number = joined(table, parts)?;
     Ok(number)
 }
@@ -75,17 +75,17 @@ fn parts_of(
     alloc: Global,
     table: &Diagrams,
     numbers: &[u32],
-    stop: &Stop,
+    outlook: &Outlook,
     function: u32,
 ) -> Result<Parts, NoMemory>
     requires numbers { AreBelow table.now numbers.now }
-    requires own { stop.now.own < count_of table.now }
+    requires own { outlook.now.own < count_of table.now }
     requires function { function < count_of table.now }
     ensures below { IfOk result (λ parts. AreBelow table.now parts.functions.items) }
-    ensures passed { IfOk result (λ parts. (h : Header) → IsHeader h → IsMissed table.now parts h → IsPassed table.now numbers.now stop.now h) }
+    ensures passed { IfOk result (λ parts. (h : Header) → IsHeader h → IsMissed table.now parts h → IsPassed table.now numbers.now outlook.now h) }
 {
-    let mut parts = first_parts(alloc, stop.own, function)?;
-    for way in &stop.ways {
+    let mut parts = first_parts(alloc, outlook.own, function)?;
+    for way in &outlook.ways {
         add_part(table, numbers, way, function, &mut parts)?;
     }
     Ok(parts)
@@ -162,7 +162,7 @@ fn is_held(table: &Diagrams, function: u32, cube: &Cube) -> bool
     ensures { IsTrue result → (h : Header) → IsIn cube.now (number h) → IsFree table.now function h → ⊥ }
 {
     match table.divide(function, cube) {
-        Part::Whole { value: Some(_) } => true,
+        OnCube::All { answer: Some(_) } => true,
         _ => false,
     }
 }
@@ -174,7 +174,7 @@ fn is_clear(table: &Diagrams, function: u32, stamp: Stamp, cube: &Cube) -> bool
     ensures clear { IsTrue result → (h : Header) → IsHeader h → IsIn cube.now (number h) → IsFree table.now function (applied stamp h) }
 {
     match table.divide(function, &stamp.forth(cube)) {
-        Part::Whole { value: None } => true,
+        OnCube::All { answer: None } => true,
         _ => false,
     }
 }

@@ -2,8 +2,8 @@
 
 use crate::survey::{Survey, survey_from};
 use crate::sweep::settled_numbers;
-use cube_alg::split;
-use cube_diagram::{Diagrams, Part};
+use cube_alg::{OnCube, split};
+use cube_diagram::Diagrams;
 use hdr_bits::Cube;
 use indexmap::IndexSet;
 use net_types::{NoMemory, Place};
@@ -22,7 +22,7 @@ pub struct Reach<'a> {
 }
 
 impl<'a> Model for Reach<'a> {
-    ghost use Rattle.transfer_rel.specs.CubeMoves.{Worlds};
+    ghost use Rattle.net_forms.specs.Worlds.{Worlds};
     ghost use Rattle.difference_reach.specs.Growth.{AreBelow};
     ghost use Rattle.difference_reach.specs.Closed.{IsClosed};
 
@@ -48,8 +48,8 @@ impl<'a> Reach<'a> {
         ensures { IfOk result (λ r. r ≡ prepared.now) }
     {
         let mut table = Diagrams::new(alloc)?;
-        let Survey { places, stops } = survey_from(alloc, prepared, &mut table, ingress)?;
-        let numbers = settled_numbers(alloc, &mut table, &stops)?;
+        let Survey { places, outlooks } = survey_from(alloc, prepared, &mut table, ingress)?;
+        let numbers = settled_numbers(alloc, &mut table, &outlooks)?;
         Ok(Reach {
             prepared,
             table,
@@ -66,10 +66,10 @@ impl<'a> Reach<'a> {
             return Touch::Perhaps;
         };
         match self.table.divide(function, cube) {
-            Part::Whole { value: None } => Touch::Untouched,
-            Part::Whole { value: Some(_) } => Touch::Perhaps,
-            Part::Divided { place: k } => {
-                let (low, high) = split(cube, k);
+            OnCube::All { answer: None } => Touch::Untouched,
+            OnCube::All { answer: Some(_) } => Touch::Perhaps,
+            OnCube::Divides { bit } => {
+                let (low, high) = split(cube, bit);
                 Touch::Halves { low, high }
             }
         }

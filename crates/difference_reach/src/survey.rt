@@ -3,7 +3,7 @@
 ghost use Rattle.std.specs.Prelude.{◌≡◌, IfOk, OnOk};
 ghost use Rattle.cube_diagram.specs.Functions.{Keeps};
 ghost use Rattle.difference_reach.specs.Ways.{KeepsPlaces};
-ghost use Rattle.difference_reach.specs.Stops.{IsStop, AreStops};
+ghost use Rattle.difference_reach.specs.Outlooks.{IsOutlook, AreOutlooks};
 
 use crate::ways::{Onward, Way, differing, ways_from};
 use cube_diagram::Diagrams;
@@ -20,7 +20,7 @@ pub(crate) const MARK: u32 = 1;
 
 /// What is known of a place.
 #[derive(Drop)]
-pub(crate) struct Stop {
+pub(crate) struct Outlook {
     /// The function of the headers with which the two networks may differ here, or of which it isn't known where they go.
     pub(crate) own: u32,
     /// Where each other header may go next.
@@ -31,7 +31,7 @@ pub(crate) struct Stop {
 #[derive(Drop)]
 pub(crate) struct Survey {
     pub(crate) places: IndexSet<Place>,
-    pub(crate) stops: Vec<Stop>,
+    pub(crate) outlooks: Vec<Outlook>,
 }
 
 /// The places that packets may reach from these.
@@ -41,32 +41,32 @@ pub(crate) fn survey_from(
     table: &mut Diagrams,
     ingress: &[Place],
 ) -> Result<Survey, NoMemory>
-    ensures { IfOk result (λ s. AreStops prepared.now table.new s.places.keys s.stops.items) }
+    ensures { IfOk result (λ s. AreOutlooks prepared.now table.new s.places.keys s.outlooks.items) }
 {
     let mut places = IndexSet::new(alloc);
     for place in ingress {
         places.insert(*place)?;
     }
-    let mut stops = Vec::new(alloc);
+    let mut outlooks = Vec::new(alloc);
     for number in 0..MOST_PLACES {
         let Some(place) = places.get_index(number).copied() else {
-            return Ok(Survey { places, stops });
+            return Ok(Survey { places, outlooks });
         };
-        let stop = stop_at(alloc, prepared, table, &mut places, place)?;
-        stops.push(stop)?;
+        let outlook = outlook_at(alloc, prepared, table, &mut places, place)?;
+        outlooks.push(outlook)?;
     }
-    Ok(Survey { places, stops })
+    Ok(Survey { places, outlooks })
 }
 
 // What is known of a place. The places that come next get numbers.
-fn stop_at(
+fn outlook_at(
     alloc: Global,
     prepared: &Prepared,
     table: &mut Diagrams,
     places: &mut IndexSet<Place>,
     place: Place,
-) -> Result<Stop, NoMemory>
-    ensures stop { IfOk result (λ stop. IsStop prepared.now table.new places.new.keys place stop) }
+) -> Result<Outlook, NoMemory>
+    ensures outlook { IfOk result (λ outlook. IsOutlook prepared.now table.new places.new.keys place outlook) }
     ensures places { OnOk result (KeepsPlaces places.old.keys places.new.keys) }
     ensures kept { Keeps table.old table.new }
 {
@@ -74,5 +74,5 @@ fn stop_at(
     let mut own_cubes = differing(alloc, prepared, place)?;
     own_cubes.extend_from_slice(unknown.make_contiguous())?;
     let own = table.add_entry(&own_cubes, MARK)?;
-    Ok(Stop { own, ways })
+    Ok(Outlook { own, ways })
 }

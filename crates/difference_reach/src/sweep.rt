@@ -2,10 +2,10 @@
 
 ghost use Rattle.std.specs.Prelude.{◌≡◌, ◌<◌, true, IfOk, OnOk, length, map};
 ghost use Rattle.cube_diagram.specs.Functions.{Keeps, count_of};
-ghost use Rattle.difference_reach.specs.Growth.{AreBelow, AreStopsBelow, IsSettledAt, AreSettled};
+ghost use Rattle.difference_reach.specs.Growth.{AreBelow, AreOutlooksBelow, IsSettledAt, AreSettled};
 
 use crate::grow::grown;
-use crate::survey::Stop;
+use crate::survey::Outlook;
 use cube_diagram::Diagrams;
 use net_types::NoMemory;
 use std::alloc::Global;
@@ -17,27 +17,27 @@ const MOST_SWEEPS: u32 = 256;
 pub(crate) fn settled_numbers(
     alloc: Global,
     table: &mut Diagrams,
-    stops: &[Stop],
+    outlooks: &[Outlook],
 ) -> Result<Vec<u32>, NoMemory>
-    requires { AreStopsBelow table.old stops.now }
+    requires { AreOutlooksBelow table.old outlooks.now }
     ensures below { IfOk result (λ numbers. AreBelow table.new numbers.items) }
     ensures kept { Keeps table.old table.new }
-    ensures settled { IfOk result (λ numbers. AreSettled table.new stops.now numbers.items) }
+    ensures settled { IfOk result (λ numbers. AreSettled table.new outlooks.now numbers.items) }
 {
-    let mut numbers = own_numbers(alloc, stops)?;
-    if settle(alloc, table, stops, &mut numbers)? {
+    let mut numbers = own_numbers(alloc, outlooks)?;
+    if settle(alloc, table, outlooks, &mut numbers)? {
         return Ok(numbers);
     }
     Ok(Vec::new(alloc))
 }
 
 // The places' own functions.
-fn own_numbers(alloc: Global, stops: &[Stop]) -> Result<Vec<u32>, NoMemory>
-    ensures { IfOk result (λ numbers. numbers.items ≡ map (λ stop. stop.own) stops.now) }
+fn own_numbers(alloc: Global, outlooks: &[Outlook]) -> Result<Vec<u32>, NoMemory>
+    ensures { IfOk result (λ numbers. numbers.items ≡ map (λ outlook. outlook.own) outlooks.now) }
 {
-    let mut numbers = Vec::with_capacity(alloc, stops.len())?;
-    for stop in stops {
-        numbers.push(stop.own)?;
+    let mut numbers = Vec::with_capacity(alloc, outlooks.len())?;
+    for outlook in outlooks {
+        numbers.push(outlook.own)?;
     }
     Ok(numbers)
 }
@@ -47,19 +47,19 @@ fn own_numbers(alloc: Global, stops: &[Stop]) -> Result<Vec<u32>, NoMemory>
 fn settle(
     alloc: Global,
     table: &mut Diagrams,
-    stops: &[Stop],
+    outlooks: &[Outlook],
     numbers: &mut [u32],
 ) -> Result<bool, NoMemory>
-    requires length { length numbers.old ≡ length stops.now }
-    requires stops { AreStopsBelow table.old stops.now }
+    requires length { length numbers.old ≡ length outlooks.now }
+    requires outlooks { AreOutlooksBelow table.old outlooks.now }
     requires numbers { AreBelow table.old numbers.old }
     ensures below { OnOk result (AreBelow table.new numbers.new) }
     ensures kept { Keeps table.old table.new }
-    ensures settled { IfOk result (λ r. r ≡ true → AreSettled table.new stops.now numbers.new) }
+    ensures settled { IfOk result (λ r. r ≡ true → AreSettled table.new outlooks.now numbers.new) }
 {
     for _ in 0..MOST_SWEEPS {
-        sweep_back(alloc, table, stops, numbers)?;
-        if sweep_forth(alloc, table, stops, numbers)? {
+        sweep_back(alloc, table, outlooks, numbers)?;
+        if sweep_forth(alloc, table, outlooks, numbers)? {
             return Ok(true);
         }
     }
@@ -70,17 +70,17 @@ fn settle(
 fn sweep_back(
     alloc: Global,
     table: &mut Diagrams,
-    stops: &[Stop],
+    outlooks: &[Outlook],
     numbers: &mut [u32],
 ) -> Result<(), NoMemory>
-    requires length { length numbers.old ≡ length stops.now }
-    requires stops { AreStopsBelow table.old stops.now }
+    requires length { length numbers.old ≡ length outlooks.now }
+    requires outlooks { AreOutlooksBelow table.old outlooks.now }
     requires numbers { AreBelow table.old numbers.old }
     ensures below { OnOk result (AreBelow table.new numbers.new) }
     ensures kept { Keeps table.old table.new }
 {
-    for index in (0..stops.len()).rev() {
-        update(alloc, table, stops, numbers, index)?;
+    for index in (0..outlooks.len()).rev() {
+        update(alloc, table, outlooks, numbers, index)?;
     }
     Ok(())
 }
@@ -89,19 +89,19 @@ fn sweep_back(
 fn sweep_forth(
     alloc: Global,
     table: &mut Diagrams,
-    stops: &[Stop],
+    outlooks: &[Outlook],
     numbers: &mut [u32],
 ) -> Result<bool, NoMemory>
-    requires length { length numbers.old ≡ length stops.now }
-    requires stops { AreStopsBelow table.old stops.now }
+    requires length { length numbers.old ≡ length outlooks.now }
+    requires outlooks { AreOutlooksBelow table.old outlooks.now }
     requires numbers { AreBelow table.old numbers.old }
     ensures below { OnOk result (AreBelow table.new numbers.new) }
     ensures kept { Keeps table.old table.new }
-    ensures settled { IfOk result (λ r. r ≡ true → AreSettled table.new stops.now numbers.new) }
+    ensures settled { IfOk result (λ r. r ≡ true → AreSettled table.new outlooks.now numbers.new) }
 {
     let mut settled = true;
-    for index in 0..stops.len() {
-        settled &= update(alloc, table, stops, numbers, index)?;
+    for index in 0..outlooks.len() {
+        settled &= update(alloc, table, outlooks, numbers, index)?;
     }
     Ok(settled)
 }
@@ -110,21 +110,21 @@ fn sweep_forth(
 fn update(
     alloc: Global,
     table: &mut Diagrams,
-    stops: &[Stop],
+    outlooks: &[Outlook],
     numbers: &mut [u32],
     index: usize,
 ) -> Result<bool, NoMemory>
-    requires within { index < length stops.now }
-    requires length { length numbers.old ≡ length stops.now }
-    requires stops { AreStopsBelow table.old stops.now }
+    requires within { index < length outlooks.now }
+    requires length { length numbers.old ≡ length outlooks.now }
+    requires outlooks { AreOutlooksBelow table.old outlooks.now }
     requires numbers { AreBelow table.old numbers.old }
     ensures below { OnOk result (AreBelow table.new numbers.new) }
     ensures kept { Keeps table.old table.new }
     ensures same { IfOk result (λ r. r ≡ true → numbers.new ≡ numbers.old) }
-    ensures settled { IfOk result (λ r. r ≡ true → IsSettledAt table.new stops.now numbers.new index) }
+    ensures settled { IfOk result (λ r. r ≡ true → IsSettledAt table.new outlooks.now numbers.new index) }
 {
     let before = numbers[index];
-    let after = grown(alloc, table, numbers, &stops[index], before)?;
+    let after = grown(alloc, table, numbers, &outlooks[index], before)?;
     if after == before {
         return Ok(true);
     }

@@ -13,7 +13,7 @@ use indexmap::IndexSet;
 use net_types::{NoMemory, Place};
 use std::alloc::Global;
 use std::collections::VecDeque;
-use transfer_rel::{Agreement, NextPlace, NextPlaces, Prepared, Version};
+use transfer_rel::{Agreement, NextPlace, NextPlaces, Prepared, Version, agree_on, next_places};
 
 /// How many regions of one place are looked at, the widest first, before the rest is left as it is.
 const MOST_REGIONS: u32 = 262_144;
@@ -65,10 +65,10 @@ fn sort_region(
 ) -> Result<(), NoMemory>
     ensures { OnOk result (IsSorted prepared.now place cube rest.old.items found.old.items rest.new.items found.new.items) }
 {
-    match prepared.agree_on(alloc, place, &cube)? {
+    match agree_on(alloc, prepared, place, &cube)? {
         Agreement::Same => Ok(()),
-        Agreement::Divides { place: k } => {
-            add_halves(&cube, k, rest)?;
+        Agreement::Divides { bit } => {
+            add_halves(&cube, bit, rest)?;
             Ok(())
         }
         Agreement::Other => {
@@ -79,12 +79,12 @@ fn sort_region(
 }
 
 // Adds the two halves of the cube.
-fn add_halves(cube: &Cube, k: u32, rest: &mut VecDeque<Cube>) -> Result<(), NoMemory>
-    requires place { k < 112 }
-    requires star { IsStar cube.now k }
+fn add_halves(cube: &Cube, bit: u32, rest: &mut VecDeque<Cube>) -> Result<(), NoMemory>
+    requires bit { bit < 112 }
+    requires star { IsStar cube.now bit }
     ensures { OnOk result ((h : Header) → IsOutside rest.new.items h → IsOutside rest.old.items h × (IsIn cube.now (number h) → ⊥)) }
 {
-    let (low, high) = split(cube, k);
+    let (low, high) = split(cube, bit);
     rest.push_back(low)?;
     rest.push_back(high)?;
     Ok(())
@@ -134,13 +134,13 @@ fn follow_region(
     ensures kept { OnOk result (KeepsWays ways.old.items ways.new.items) }
     ensures places { OnOk result (KeepsPlaces places.old.keys places.new.keys) }
 {
-    match prepared.next_places(alloc, Version::Old, place, &cube)? {
+    match next_places(alloc, prepared, Version::Old, place, &cube)? {
         NextPlaces::Within { places: nexts } => {
             add_ways(&cube, &nexts, places, ways)?;
             Ok(())
         }
-        NextPlaces::Divides { place: k } => {
-            add_halves(&cube, k, unknown)?;
+        NextPlaces::Divides { bit } => {
+            add_halves(&cube, bit, unknown)?;
             Ok(())
         }
     }

@@ -1,21 +1,21 @@
 -- The parts of the cut with the choices of their groups.
-use Rattle.std.proofs.Common.{◌≡◌, ℕ, zero, suc, ◌<◌, ◌^◌, ◌/◌, false, cond, List, [], ◌∷◌, length, get_or, map, Option, Some, None, refl, sym, ap, subst, ◌∙◌, arith}
+use Rattle.std.proofs.Common.{◌≡◌, ℕ, zero, suc, ◌<◌, ◌^◌, ◌/◌, Bool, false, cond, List, [], ◌∷◌, ◌++◌, length, get_or, map, Option, Some, None, refl, sym, ap, subst, ◌∙◌, arith}
 use Rattle.std.specs.Prelude.{All, AllPairs, Any}
-use Rattle.std.specs.Option.{option_map, unwrap_or}
+use Rattle.std.specs.Option.{option_or, unwrap_or}
 use Rattle.std.specs.List.Sorted.{IsStrictlySortedBy}
 use Rattle.std.proofs.lemmas.List.Kept.{AllPairs-cons}
-use Rattle.std.proofs.lemmas.List.Elements.{All-nil, All-map, All-weaker, All-head, All-tail}
+use Rattle.std.proofs.lemmas.List.Elements.{All-nil, All-map, All-weaker, All-head, All-tail, All-push}
 use Rattle.std.specs.Prelude.{IsNone, IfSome, true}
 use Rattle.std.proofs.Common.{true≢false}
-use Rattle.hdr_bits.specs.Bits.{bit}
-use Rattle.hdr_bits.specs.CubeBits.{IsIn, IsStar, is_in, place}
+use Rattle.hdr_bits.specs.Bits.{bit_of}
+use Rattle.hdr_bits.specs.CubeBits.{IsIn, IsStar, is_in, digit_at}
 use Rattle.cube_alg.proofs.ValueLemmas.{test_in}
 use Rattle.cube_alg.specs.declared.cut.Piece.{Piece}
 use Rattle.cube_alg.specs.Pieces.{value_of, AreApartPieces}
 use Rattle.hdr_bits.specs.declared.cube.Cube.{Cube}
 use Rattle.net_types.specs.declared.network.Rib.{Rib}
 use Rattle.net_types.specs.Order.{hop_cmp, in_order}
-use Rattle.net_types.specs.Routes.{hops, hops_within}
+use Rattle.net_types.specs.Routes.{holds, hops, hops_within}
 use Rattle.net_types.proofs.Members.{to_map}
 use Rattle.fib_lookup.specs.declared.form.HopForm.{HopForm}
 use Rattle.fib_lookup.specs.declared.form.HopForm.TheVariants.{Discard}
@@ -77,21 +77,66 @@ all_agree None b n = tt
 all_agree (Some x) b n = absurd (true≢false n)
 
 pub in_all : (c : Cube) → ((k : ℕ) → k < 112 → IsStar c k) → (h : ℕ) → is_in c h ≡ true
-in_all c f h = test_in c h (λ k l. all_agree (place c k) (bit h k) (f k l))
+in_all c f h = test_in c h (λ k l. all_agree (digit_at c k) (bit_of h k) (f k l))
 
--- ---- parts that are tried in order
-first_row : (gs : List Group) (pieces : List Piece) (h : ℕ) → choices_in (map (row gs) pieces) h ≡ option_map (forms_at gs) (value_of pieces h)
-first_row gs [] h = refl
-first_row gs (p ∷ ps) h = elim (is_in p.cube h) as (λ t. cond t (Some (forms_at gs p.value)) (choices_in (map (row gs) ps) h) ≡ option_map (forms_at gs) (cond t (Some p.value) (value_of ps h))) [
-  | true ↦ refl
-  | false ↦ first_row gs ps h
-]
+-- ---- groups that are tried in order
+abbrev pub found_forms : List Group → ℕ → Option (List HopForm)
+found_forms [] a = None
+found_forms (g ∷ gs) a = cond (holds g.prefix a) (Some g.forms.items) (found_forms gs a)
 
-pub rows_choices : (rib : Rib) (gs : List Group) (pieces : List Piece) (rows : List (Cube × List HopForm)) → rows ≡ map (row gs) pieces → AreChoices rib gs → ((h : ℕ) → h < 2 ^ 112 → value_of pieces h ≡ Some (unwrap_or (number_of gs (h / 2 ^ 80)) (length gs))) → (h : ℕ) → h < 2 ^ 112 → AreChoicesFor rib (h / 2 ^ 80) (choices_in rows h)
-rows_choices rib gs pieces rows e c n h b =
-    let a = h / 2 ^ 80 in
+or_if : {X : Type 0} (t : Bool) (x : X) (o p : Option X) → cond t (Some x) (option_or o p) ≡ option_or (cond t (Some x) o) p
+or_if true x o p = refl
+or_if false x o p = refl
+
+found_push : (gs : List Group) (g : Group) (a : ℕ) → found_forms (gs ++ g ∷ []) a ≡ option_or (found_forms gs a) (cond (holds g.prefix a) (Some g.forms.items) None)
+found_push [] g a = refl
+found_push (x ∷ gs) g a = ap (cond (holds x.prefix a) (Some x.forms.items)) (found_push gs g a) ∙ or_if (holds x.prefix a) x.forms.items (found_forms gs a) (cond (holds g.prefix a) (Some g.forms.items) None)
+
+choices_push : (rows : List (Cube × List HopForm)) (c : Cube) (forms : List HopForm) (h : ℕ) → choices_in (rows ++ (c, forms) ∷ []) h ≡ option_or (choices_in rows h) (cond (is_in c h) (Some forms) None)
+choices_push [] c forms h = refl
+choices_push (q ∷ rows) c forms h = ap (cond (is_in q.0 h) (Some q.1)) (choices_push rows c forms h) ∙ or_if (is_in q.0 h) q.1 (choices_in rows h) (cond (is_in c h) (Some forms) None)
+
+-- these are the rows of the groups
+pub record AreRows (groups : List Group) (rows : List (Cube × List HopForm)) : Type 0 where
+  pub choices : (h : ℕ) → h < 2 ^ 112 → choices_in rows h ≡ found_forms groups (h / 2 ^ 80)
+  pub sorted : All (λ p. IsStrictlySortedBy form_cmp p.1) rows
+
+pub rows_none : AreRows [] []
+rows_none = record { choices = λ h b. refl; sorted = All-nil (λ p. IsStrictlySortedBy form_cmp p.1) }
+
+pub rows_more : (gs : List Group) (rows : List (Cube × List HopForm)) (g : Group) (c : Cube) → ((h : ℕ) → h < 2 ^ 112 → is_in c h ≡ holds g.prefix (h / 2 ^ 80)) → IsStrictlySortedBy form_cmp g.forms.items → AreRows gs rows → AreRows (gs ++ g ∷ []) (rows ++ (c, g.forms.items) ∷ [])
+rows_more gs rows g c f s r =
     record {
-      forms = first_forms gs a;
-      there = ap (λ rs. choices_in rs h) e ∙ (first_row gs pieces h ∙ (ap (option_map (forms_at gs)) (n h b) ∙ ap Some (forms_first gs a)));
-      exact = c.choices a;
+      choices = λ h b. choices_push rows c g.forms.items h
+          ∙ ((λ i. option_or (r.choices h b i) (cond (f h b i) (Some g.forms.items) None)) ∙ sym (found_push gs g (h / 2 ^ 80)));
+      sorted = All-push (λ p. IsStrictlySortedBy form_cmp p.1) rows (c, g.forms.items) r.sorted s;
     }
+
+or_drop_first : (gs : List Group) (a : ℕ) → option_or (found_forms gs a) (Some (Discard ∷ [])) ≡ Some (first_forms gs a)
+or_drop_first [] a = refl
+or_drop_first (g ∷ gs) a = by (holds g.prefix a) (or_drop_first gs a)
+  where
+    by : (t : Bool) → option_or (found_forms gs a) (Some (Discard ∷ [])) ≡ Some (first_forms gs a) → option_or (cond t (Some g.forms.items) (found_forms gs a)) (Some (Discard ∷ [])) ≡ Some (cond t g.forms.items (first_forms gs a))
+    by true e = refl
+    by false e = e
+
+pub rows_whole : (gs : List Group) (rows : List (Cube × List HopForm)) (c : Cube) (forms : List HopForm) → ((h : ℕ) → is_in c h ≡ true) → forms ≡ Discard ∷ [] → AreRows gs rows → (h : ℕ) → h < 2 ^ 112 → choices_in (rows ++ (c, forms) ∷ []) h ≡ Some (first_forms gs (h / 2 ^ 80))
+rows_whole gs rows c forms all e r h b =
+    choices_push rows c forms h
+    ∙ ((λ i. option_or (r.choices h b i) (cond (all h i) (Some (e i)) None)) ∙ or_drop_first gs (h / 2 ^ 80))
+
+pub rows_whole_sorted : (gs : List Group) (rows : List (Cube × List HopForm)) (c : Cube) (forms : List HopForm) → forms ≡ Discard ∷ [] → AreRows gs rows → All (λ p. IsStrictlySortedBy form_cmp p.1) (rows ++ (c, forms) ∷ [])
+rows_whole_sorted gs rows c forms e r =
+    All-push (λ p. IsStrictlySortedBy form_cmp p.1) rows (c, forms) r.sorted (subst (λ fs. IsStrictlySortedBy form_cmp fs) (sym e) one_sorted)
+
+pub rows_choices : (rib : Rib) (gs : List Group) (rows : List (Cube × List HopForm)) → AreChoices rib gs → ((h : ℕ) → h < 2 ^ 112 → choices_in rows h ≡ Some (first_forms gs (h / 2 ^ 80))) → (h : ℕ) → h < 2 ^ 112 → AreChoicesFor rib (h / 2 ^ 80) (choices_in rows h)
+rows_choices rib gs rows c n h b =
+    record { forms = first_forms gs (h / 2 ^ 80); there = n h b; exact = c.choices (h / 2 ^ 80) }
+
+pub all_at : (P : Group → Type 0) (xs : List Group) (x : Group) (ys : List Group) → All P (xs ++ x ∷ ys) → P x
+all_at P [] x ys a = a 0 x (omega arith)
+all_at P (z ∷ xs) x ys a = all_at P xs x ys (All-tail P z (xs ++ x ∷ ys) a)
+
+pub no_items : (xs : List Group) → 0 ≡ length xs → [] ≡ xs
+no_items [] e = refl
+no_items (x ∷ xs) e = absurd (omega (arith, e))

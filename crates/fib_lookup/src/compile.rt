@@ -1,21 +1,23 @@
-ghost use Rattle.std.specs.Prelude.{◌≡◌, ◌<◌, ◌^◌, ◌/◌, ℕ, Some, IfOk, All, AllPairs, Any, map, length};
+ghost use Rattle.std.specs.Prelude.{◌≡◌, ◌<◌, ◌^◌, ◌/◌, ◌∷◌, [], ℕ, Some, IfOk, All, AllPairs, Any, map, length};
 ghost use Rattle.std.specs.Option.{unwrap_or};
 ghost use Rattle.std.specs.List.Sorted.{IsStrictlySortedBy};
-ghost use Rattle.hdr_bits.specs.CubeBits.{IsIn, is_in};
+ghost use Rattle.hdr_bits.specs.CubeBits.{IsIn};
 ghost use Rattle.net_types.specs.Order.{hop_cmp, in_order};
-ghost use Rattle.net_types.specs.Routes.{holds, hops};
+ghost use Rattle.net_types.specs.Routes.{hops};
 ghost use Rattle.cube_alg.specs.Pieces.{value_of};
 ghost use Rattle.fib_lookup.specs.Choices.{choices_in, AreChoicesFor};
+ghost use Rattle.fib_lookup.specs.declared.form.HopForm.TheVariants.{Discard};
 ghost use Rattle.fib_lookup.specs.Forms.{form_cmp, hop_of};
-ghost use Rattle.fib_lookup.specs.Groups.{number_of, forms_at, row, AreChoices};
+ghost use Rattle.fib_lookup.specs.Groups.{number_of, forms_at, first_forms, row, AreChoices};
 
 use crate::form::HopForm;
 use crate::group::{Group, add_level};
 use crate::known::resolve;
+use crate::prefix::prefix_cube;
 use crate::table::Table;
 use cube_alg::{Piece, first_cut};
 use hdr_bits::Cube;
-use net_types::{Duplicate, List, NoMemory, Rib, Subnet};
+use net_types::{Duplicate, List, NoMemory, Rib};
 use std::alloc::Global;
 
 /// The choices of every destination: disjoint cubes that hold all headers, each with the choices of its headers,
@@ -50,9 +52,32 @@ pub fn prefix_choices(alloc: Global, rib: &Rib) -> Result<Vec<(Cube, List<HopFor
     ensures sorted { IfOk result (λ r. All (λ p. IsStrictlySortedBy form_cmp p.1) r.items) }
 {
     let groups = all_groups(alloc, rib)?;
-    let pieces = pieces_of(alloc, groups.as_slice())?;
-    let rows = rows_of(alloc, groups.as_slice(), pieces.as_slice())?;
+    let rows = rows_by_prefix(alloc, groups)?;
     Ok(rows)
+}
+
+/// The groups in order, each with the cube of its prefix, and a drop for all other headers.
+fn rows_by_prefix(alloc: Global, groups: Vec<Group>) -> Result<Vec<(Cube, List<HopForm>)>, NoMemory>
+    requires { All (λ g. IsStrictlySortedBy form_cmp g.forms.items) groups.items }
+    ensures choices { IfOk result (λ rows. (h : ℕ) → h < 2 ^ 112 → choices_in rows.items h ≡ Some (first_forms groups.items (h / 2 ^ 80))) }
+    ensures sorted { IfOk result (λ rows. All (λ p. IsStrictlySortedBy form_cmp p.1) rows.items) }
+{
+    let mut rows = Vec::with_capacity(alloc, groups.len())?;
+    for group in groups {
+        let cube = prefix_cube(&group.prefix);
+        rows.push((cube, List::new(group.forms)))?;
+    }
+    rows.push((Cube::all(), dropped(alloc)?))?;
+    Ok(rows)
+}
+
+/// A drop alone.
+fn dropped(alloc: Global) -> Result<List<HopForm>, NoMemory>
+    ensures { IfOk result (λ forms. forms ≡ Discard ∷ []) }
+{
+    let mut forms = List::empty(alloc);
+    forms.push(HopForm::Discard)?;
+    Ok(forms)
 }
 
 /// The parts with the choices of their groups.
@@ -107,32 +132,18 @@ fn pieces_of(alloc: Global, groups: &[Group]) -> Result<Vec<Piece>, NoMemory>
 }
 
 /// The position as a piece's value.
-fn number(place: usize) -> Result<u32, NoMemory>
-    ensures { IfOk result (λ value. value ≡ place) }
+fn number(position: usize) -> Result<u32, NoMemory>
+    ensures { IfOk result (λ value. value ≡ position) }
 {
-    u32::try_from(place).map_err(|_| NoMemory)
-}
-
-/// The cube of the headers whose destination the prefix holds.
-fn prefix_cube(prefix: &Subnet) -> Cube
-    ensures { (h : ℕ) → h < 2 ^ 112 → is_in result h ≡ holds prefix.now (h / 2 ^ 80) }
-{
-    let size: u64 = 1 << (32 - u32::from(prefix.length));
-    let mask = (1 << 32) - size;
-    let address = u64::from(prefix.address);
-    let least = address - address % size;
-    Cube {
-        fixed: u128::from(mask) * (1 << 80),
-        bits: u128::from(least) * (1 << 80),
-    }
+    u32::try_from(position).map_err(|_| NoMemory)
 }
 
 /// The choices of the group at this position; a drop where there is none.
-fn forms_at(alloc: Global, groups: &[Group], place: u32) -> Result<List<HopForm>, NoMemory>
-    ensures { IfOk result (λ forms. forms ≡ forms_at groups.now place) }
+fn forms_at(alloc: Global, groups: &[Group], position: u32) -> Result<List<HopForm>, NoMemory>
+    ensures { IfOk result (λ forms. forms ≡ forms_at groups.now position) }
 {
     let mut forms = List::empty(alloc);
-    let Some(group) = groups.get(place as usize) else {
+    let Some(group) = groups.get(position as usize) else {
         forms.push(HopForm::Discard)?;
         return Ok(forms);
     };

@@ -1,3 +1,4 @@
 pub mod Numbers
 pub mod Masks
 pub mod CubeLemmas
+pub mod ListLemmas

@@ -1,5 +1,5 @@
 ghost use Rattle.std.specs.Prelude.{◌≡◌, ◌≢◌, ◌<◌, ◌≤◌, ◌^◌, ◌↔◌, ℕ, IsTrue, IsSome, IfSome};
-ghost use Rattle.hdr_bits.specs.Bits.{bit};
+ghost use Rattle.hdr_bits.specs.Bits.{bit_of};
 ghost use Rattle.hdr_bits.specs.HeaderBits.{number, header_of};
 
 /// What the model reads of a packet's headers (IPv4, and TCP, UDP or ICMP behind it).
@@ -46,7 +46,7 @@ impl Header {
     /// Bit `k`, below 112, where bit 0 is the most significant one of the destination.
     pub fn bit(&self, k: u32) -> bool
         requires { k < 112 }
-        ensures { IsTrue result ↔ (bit (number self.now) k ≡ 1) }
+        ensures { IsTrue result ↔ (bit_of (number self.now) k ≡ 1) }
     {
         self.to_bits() >> (111 - k) & 1 == 1
     }
@@ -55,8 +55,8 @@ impl Header {
     #[tactic(auto, using(crate::proofs::Masks::set_bit, crate::proofs::Masks::clear_bit))]
     pub fn with_bit(&self, k: u32, value: bool) -> Header
         requires { k < 112 }
-        ensures at { IsTrue value ↔ (bit (number result) k ≡ 1) }
-        ensures others { (i : ℕ) → i < 112 → i ≢ k → bit (number result) i ≡ bit (number self.now) i }
+        ensures at { IsTrue value ↔ (bit_of (number result) k ≡ 1) }
+        ensures others { (i : ℕ) → i < 112 → i ≢ k → bit_of (number result) i ≡ bit_of (number self.now) i }
     {
         let bits = self.to_bits();
         let weight = 1 << (111 - k);
@@ -81,38 +81,5 @@ pub(crate) fn unpack(bits: u128) -> Header
         dport: (bits >> 24 & 0xffff) as u16,
         sport: (bits >> 8 & 0xffff) as u16,
         flags: (bits & 0xff) as u8,
-    }
-}
-
-#[cfg(test)]
-mod tests {
-    use super::*;
-
-    // The header of no field but the destination.
-    fn to(dst: u32) -> Header
-        ensures { result ≡ (record { dst = dst; src = 0; proto = 0; dport = 0; sport = 0; flags = 0 }) }
-    {
-        Header {
-            dst,
-            src: 0,
-            proto: 0,
-            dport: 0,
-            sport: 0,
-            flags: 0,
-        }
-    }
-
-    #[test]
-    fn numbers_and_bits(rt: HostRuntime) {
-        let highest = to(0x8000_0000);
-        assert!(rt; highest.bit(0));
-        assert!(rt; !highest.bit(1));
-        assert_eq!(rt; highest.to_bits(), 1 << 111);
-        assert!(rt; Header::from_bits(1 << 112).is_none());
-        assert!(rt; Header::from_bits((1 << 112) - 1).is_some());
-        assert_eq!(rt; Header::from_bits(1 << 111), Some(highest));
-        let lowest = to(0).with_bit(111, true);
-        assert_eq!(rt; lowest.flags, 1);
-        assert_eq!(rt; lowest.with_bit(111, false), to(0));
     }
 }

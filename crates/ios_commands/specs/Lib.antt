@@ -1,3 +1,4 @@
+pub mod Refused
 pub mod Interfaces
 pub mod Routes
 pub mod Translation

@@ -6,6 +6,7 @@ use Rattle.ios_lines.specs.declared.fault.Kind.TheVariants as kind
 use Rattle.ios_lines.specs.declared.effect.Action.{Action}
 use Rattle.ios_lines.specs.Words.{Word, Words, fault_of, begins}
 
+-- global commands that aren't covered, by their first words
 abbrev pub global_rows : List Words
 global_rows =
     (codes "router" ∷ [])
@@ -32,6 +33,7 @@ global_rows =
     ∷ (codes "no" ∷ codes "ip" ∷ codes "classless" ∷ [])
     ∷ []
 
+-- commands of an interface that aren't covered, by their first words
 abbrev pub interface_rows : List Words
 interface_rows =
     (codes "ipv6" ∷ codes "address" ∷ [])
@@ -66,9 +68,11 @@ interface_rows =
 abbrev pub fits_row : Words → Words → Bool
 fits_row words row = begins row words
 
+-- a row of the code, by the bytes of its words
 abbrev pub row_words : Bor (List (Bor (List ℕ))) → Words
 row_words row = map (λ w. w.now) row.now
 
+-- the word at a place, or nothing
 abbrev pub word_of : Words → ℕ → Word
 word_of words i = unwrap_or (slice_get words i) []
 
@@ -77,5 +81,6 @@ abbrev pub refused_by : Words → Option ℕ → Action → Result Action Fault
 refused_by words None a = Ok a
 refused_by words (Some n) a = Err (fault_of kind.NotCovered (word_of words (n - 1)))
 
+-- a command is refused by the first row that begins it
 abbrev pub uncovered : List Words → Words → Action → Result Action Fault
 uncovered rows words a = refused_by words (option_map length (find (fits_row words) rows)) a

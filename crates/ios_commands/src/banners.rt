@@ -1,5 +1,6 @@
 //! Banners: `banner W TEXT`.
 ghost use Rattle.std.specs.Prelude.{◌≡◌, ◌≤◌, ◌+◌, IfSome, length, drop, slice_get, option_map};
+ghost use Rattle.net_text.specs.Limits.{text_limit};
 ghost use Rattle.net_text.specs.Lines.{is_line_end};
 ghost use Rattle.ios_commands.specs.Banners.{is_banner, delimiter, past, lines_before, lines_within, banner_refused, banner_over, banner_effect, banner_at};
 
@@ -20,7 +21,7 @@ pub fn is_banner(indent: bool, words: &[Text]) -> bool
 
 /// The lines that the banner is written on, which are passed over.
 pub fn banner(alloc: Global, bytes: &[u8], line: &Line) -> Effect
-    requires size { length bytes.now ≤ 16777216 }
+    requires size { length bytes.now ≤ text_limit }
     requires number { line.now.number ≤ 16777217 }
     ensures { result ≡ banner_effect bytes.now line.now }
 {
@@ -62,7 +63,7 @@ fn after(bytes: &[u8], at: usize) -> &[u8]
 
 /// How many lines end within the text, from after its delimiter to the next place of it.
 fn lines_within(text: &[u8]) -> Option<u32>
-    requires { length text.now ≤ 16777216 }
+    requires { length text.now ≤ text_limit }
     ensures value { result ≡ lines_within text.now }
     ensures bound { IfSome result (λ n. n ≤ length text.now) }
 {
@@ -99,7 +100,7 @@ fn line_end(b: u8) -> u32
 
 /// How many lines end before the next place of the delimiter.
 fn lines_before(mark: &[u8], text: &[u8]) -> Option<u32>
-    requires { length text.now ≤ 16777216 }
+    requires { length text.now ≤ text_limit }
     ensures value { result ≡ lines_before mark.now text.now }
     ensures bound { IfSome result (λ n. n ≤ length text.now) }
 {

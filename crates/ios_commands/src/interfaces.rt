@@ -16,8 +16,9 @@ ghost use Rattle.ios_commands.specs.Interfaces.{
   group_action,
 };
 
+use crate::refused::CommandPart;
 use ios_lines::{
-    Action, Change, Command, Kind, ReadError, WrittenAddress, after, cut, end, first, is, next,
+    Action, Change, Kind, Plain, ReadError, WrittenAddress, after, cut, end, first, is, next,
     read_address, read_mask, refuse,
 };
 use net_types::{Duplicate, Subnet, Text};
@@ -29,7 +30,7 @@ pub fn interface(alloc: Global, words: &[Text]) -> Result<Action, ReadError>
     ensures { Gives (λ a. a) result (interface_action words.now) }
 {
     let (name, rest) = next(alloc, words)?;
-    end(alloc, Command::Plain, after_link_kind(rest))?;
+    end(alloc, Plain, after_link_kind(rest))?;
     if is(name, b"Null0") {
         return Ok(Action::Pass { global: true });
     }
@@ -66,7 +67,11 @@ pub fn interface_address(
 {
     let (address, rest) = written_address(alloc, line, words)?;
     let secondary = begins_secondary(rest);
-    end(alloc, Command::Address, after_secondary(secondary, rest))?;
+    end(
+        alloc,
+        CommandPart::Address,
+        after_secondary(secondary, rest),
+    )?;
     let name = name.copy(alloc)?;
     let change = address_change(secondary, address);
     Ok(Action::Interface { name, change })
@@ -81,8 +86,8 @@ fn written_address(
 ) -> Result<(WrittenAddress, &[Text]), ReadError>
     ensures { Gives (λ x. (x.0, x.1.now)) result (written_at line words.now) }
 {
-    let (address, rest) = read_address(alloc, Command::Address, words)?;
-    let (length, rest) = read_mask(alloc, Command::Address, 1, rest)?;
+    let (address, rest) = read_address(alloc, CommandPart::Address, words)?;
+    let (length, rest) = read_mask(alloc, CommandPart::Address, 1, rest)?;
     let word = first(alloc, words)?;
     let subnet = subnet(address, length);
     Ok((WrittenAddress { subnet, line, word }, rest))
@@ -133,7 +138,7 @@ pub fn plain(
 ) -> Result<Action, ReadError>
     ensures { Gives (λ a. a) result (plain_action name.now change words.now) }
 {
-    end(alloc, Command::Plain, words)?;
+    end(alloc, Plain, words)?;
     let name = name.copy(alloc)?;
     Ok(Action::Interface { name, change })
 }
@@ -145,7 +150,7 @@ pub fn access_group(alloc: Global, name: &Text, words: &[Text]) -> Result<Action
 {
     let (list, rest) = next(alloc, words)?;
     let (change, rest) = direction(alloc, list, rest)?;
-    end(alloc, Command::Plain, rest)?;
+    end(alloc, Plain, rest)?;
     let name = name.copy(alloc)?;
     Ok(Action::Interface { name, change })
 }

@@ -4,6 +4,7 @@
 
 mod banners;
 mod interfaces;
+mod refused;
 mod routes;
 mod tables;
 mod translation;

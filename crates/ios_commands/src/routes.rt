@@ -6,8 +6,9 @@ ghost use Rattle.ios_commands.specs.Routes.{is_prefix, prefix_at, port_by, after
 ghost use Rattle.ios_lines.specs.Words.{hop_of};
 
 use crate::interfaces::subnet;
+use crate::refused::CommandPart;
 use ios_lines::{
-    Action, Command, Kind, ReadError, WrittenRoute, after, allowed, cut, end, first, hop, is, next,
+    Action, Kind, Plain, ReadError, WrittenRoute, after, allowed, cut, end, first, hop, is, next,
     read_address, read_mask, read_number, refuse,
 };
 use ios_words::{address, number};
@@ -52,8 +53,8 @@ fn route(alloc: Global, words: &[Text]) -> Result<Route, ReadError>
 fn read_prefix(alloc: Global, words: &[Text]) -> Result<(Subnet, &[Text]), ReadError>
     ensures { Gives (λ x. (x.0, x.1.now)) result (prefix_at words.now) }
 {
-    let (address, rest) = read_address(alloc, Command::RoutePrefix, words)?;
-    let (length, rest) = read_mask(alloc, Command::Plain, 0, rest)?;
+    let (address, rest) = read_address(alloc, CommandPart::RoutePrefix, words)?;
+    let (length, rest) = read_mask(alloc, Plain, 0, rest)?;
     let prefix = subnet(address, length);
     if is_prefix(prefix) {
         return Ok((prefix, rest));
@@ -82,7 +83,7 @@ fn size(subnet: Subnet) -> u64
 fn read_exit(alloc: Global, words: &[Text]) -> Result<(RouteExit, &[Text]), ReadError>
     ensures { Gives (λ x. (x.0, x.1.now)) result (exit_at words.now) }
 {
-    let (word, rest) = allowed(alloc, Command::RouteTail, words)?;
+    let (word, rest) = allowed(alloc, CommandPart::RouteTail, words)?;
     let (exit, rest) = exit_by(alloc, address(word.as_bytes()), word, rest)?;
     Ok((exit, rest))
 }
@@ -133,7 +134,7 @@ fn read_options(alloc: Global, words: &[Text]) -> Result<RouteOptions, ReadError
     let (options, rest) = read_option(alloc, no_options(), words)?;
     let (options, rest) = read_option(alloc, options, rest)?;
     let (options, rest) = read_option(alloc, options, rest)?;
-    end(alloc, Command::RouteTail, rest)?;
+    end(alloc, CommandPart::RouteTail, rest)?;
     Ok(options)
 }
 
@@ -159,7 +160,7 @@ fn read_option(
     if words.is_empty() {
         return Ok((options, words));
     }
-    let (word, rest) = allowed(alloc, Command::RouteTail, words)?;
+    let (word, rest) = allowed(alloc, CommandPart::RouteTail, words)?;
     option_by(alloc, options, word, rest)
 }
 
@@ -217,7 +218,7 @@ fn tag_option(
 ) -> Result<(RouteOptions, &[Text]), ReadError>
     ensures { Gives (λ x. (x.0, x.1.now)) result (tag_option options words.now) }
 {
-    let (_, rest) = read_number(alloc, Command::RouteTail, 0, 4294967295, words)?;
+    let (_, rest) = read_number(alloc, CommandPart::RouteTail, 0, 4294967295, words)?;
     let options = RouteOptions {
         tagged: true,
         ..options

@@ -1,6 +1,7 @@
 //! The commands that aren't covered by their first words.
 ghost use Rattle.std.specs.Prelude.{◌≡◌, IfOk, length, map, option_map, find, take};
 ghost use Rattle.ios_lines.specs.Words.{Gives};
+ghost use Rattle.net_text.specs.Limits.{word_limit};
 ghost use Rattle.ios_commands.specs.Tables.{global_rows, interface_rows, fits_row, row_words, word_of, refused_by};
 
 use ios_lines::{Action, Kind, ReadError, begins, cut, refuse};
@@ -103,7 +104,7 @@ pub fn uncovered(
 
 /// The word at this place, at most its first 64 bytes.
 fn word_at(alloc: Global, words: &[Text], i: usize) -> Result<Text, NoMemory>
-    ensures { IfOk result (λ text. text ≡ take 64 (word_of words.now i)) }
+    ensures { IfOk result (λ text. text ≡ take word_limit (word_of words.now i)) }
 {
     match words.get(i) {
         None => Ok(Text::new(Vec::new(alloc))),

@@ -15,10 +15,10 @@ ghost use Rattle.ios_commands.specs.Translation.{
   static_action,
 };
 
+use crate::refused::CommandPart;
 use indexmap::IndexSet;
 use ios_lines::{
-    Action, Command, Kind, ReadError, allowed, cut, end, first, is, read_address, read_number,
-    refuse,
+    Action, Kind, Plain, ReadError, allowed, cut, end, first, is, read_address, read_number, refuse,
 };
 use net_types::{NatKind, NatRule, NoMemory, Text};
 use std::alloc::Global;
@@ -141,7 +141,7 @@ fn global_side(rule: &NatRule) -> NatSide
 pub fn static_rule(alloc: Global, rules: &NatBook, words: &[Text]) -> Result<Action, ReadError>
     ensures { Gives (λ a. a) result (static_action rules.now words.now) }
 {
-    let (word, rest) = allowed(alloc, Command::NatLocal, words)?;
+    let (word, rest) = allowed(alloc, CommandPart::NatLocal, words)?;
     if is(word, b"tcp") {
         return port_rule(alloc, rules, NatKind::Tcp, rest);
     }
@@ -156,8 +156,8 @@ pub fn static_rule(alloc: Global, rules: &NatBook, words: &[Text]) -> Result<Act
 fn address_rule(alloc: Global, rules: &NatBook, words: &[Text]) -> Result<Action, ReadError>
     ensures { Gives (λ a. a) result (address_rule rules.now words.now) }
 {
-    let (local, after_local) = read_address(alloc, Command::NatLocal, words)?;
-    let (global, rest) = read_address(alloc, Command::NatGlobal, after_local)?;
+    let (local, after_local) = read_address(alloc, CommandPart::NatLocal, words)?;
+    let (global, rest) = read_address(alloc, CommandPart::NatGlobal, after_local)?;
     let local_word = first(alloc, words)?;
     let global_word = first(alloc, after_local)?;
     let rule = NatRule {
@@ -180,10 +180,10 @@ fn port_rule(
 ) -> Result<Action, ReadError>
     ensures { Gives (λ a. a) result (port_rule rules.now kind words.now) }
 {
-    let (local, rest) = read_address(alloc, Command::NatLocal, words)?;
-    let (local_port, after_local) = read_number(alloc, Command::Plain, 1, 65535, rest)?;
-    let (global, rest) = read_address(alloc, Command::NatGlobal, after_local)?;
-    let (global_port, rest) = read_number(alloc, Command::Plain, 1, 65535, rest)?;
+    let (local, rest) = read_address(alloc, CommandPart::NatLocal, words)?;
+    let (local_port, after_local) = read_number(alloc, Plain, 1, 65535, rest)?;
+    let (global, rest) = read_address(alloc, CommandPart::NatGlobal, after_local)?;
+    let (global_port, rest) = read_number(alloc, Plain, 1, 65535, rest)?;
     let local_word = first(alloc, words)?;
     let global_word = first(alloc, after_local)?;
     let rule = NatRule {
@@ -240,6 +240,6 @@ fn extendable(alloc: Global, words: &[Text]) -> Result<(), ReadError>
     if words.is_empty() {
         return Ok(());
     }
-    let (_, rest) = allowed(alloc, Command::NatEnd, words)?;
-    end(alloc, Command::NatEnd, rest)
+    let (_, rest) = allowed(alloc, CommandPart::NatEnd, words)?;
+    end(alloc, CommandPart::NatEnd, rest)
 }

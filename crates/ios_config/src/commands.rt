@@ -1,5 +1,6 @@
 //! What a line does.
 ghost use Rattle.std.specs.Prelude.{◌≡◌, ◌≤◌, IfOk, length, map};
+ghost use Rattle.net_text.specs.Limits.{text_limit};
 ghost use Rattle.net_text.specs.Lines.{piece};
 ghost use Rattle.ios_lines.specs.Words.{Gives};
 ghost use Rattle.ios_config.specs.Effects.{
@@ -22,7 +23,7 @@ use ios_commands::{
     plain, static_route, static_rule, uncovered,
 };
 use ios_lines::{
-    Action, Change, Command, Effect, Fault, ReadError, Refusal, Section, after, begins, end, next,
+    Action, Change, Effect, Fault, Plain, ReadError, Refusal, Section, after, begins, end, next,
 };
 use ios_lists::{list_line, numbered_list, open_list};
 use net_text::{Line, Span, part};
@@ -32,7 +33,7 @@ use std::alloc::Global;
 /// What a line does after the lines that have made the draft.
 #[tactic(auto, unfolding(crate::specs::Effects::effect_of))]
 pub fn effect(alloc: Global, bytes: &[u8], draft: &Draft, line: &Line) -> Result<Effect, NoMemory>
-    requires size { length bytes.now ≤ 16777216 }
+    requires size { length bytes.now ≤ text_limit }
     requires number { line.now.number ≤ 16777217 }
     ensures { IfOk result (λ e. e ≡ effect_of bytes.now (seen_in draft.now) line.now) }
 {
@@ -64,7 +65,7 @@ fn words_effect(
     line: &Line,
     words: &[Text],
 ) -> Result<Effect, NoMemory>
-    requires size { length bytes.now ≤ 16777216 }
+    requires size { length bytes.now ≤ text_limit }
     requires number { line.now.number ≤ 16777217 }
     ensures { IfOk result (λ e. e ≡ words_effect bytes.now (seen_in draft.now) line.now words.now) }
 {
@@ -235,7 +236,7 @@ fn hostname(alloc: Global, words: &[Text]) -> Result<Action, ReadError>
     ensures { Gives (λ a. a) result (hostname_action words.now) }
 {
     let (name, rest) = next(alloc, words)?;
-    end(alloc, Command::Plain, rest)?;
+    end(alloc, Plain, rest)?;
     Ok(Action::Host {
         name: name.copy(alloc)?,
     })

@@ -1,5 +1,6 @@
 //! Reading a configuration.
 ghost use Rattle.std.specs.Prelude.{◌≡◌, ◌≤◌, ◌<◌, IfOk, length, map};
+ghost use Rattle.net_text.specs.Limits.{text_limit};
 ghost use Rattle.net_text.specs.Lines.{lines_of};
 ghost use Rattle.ios_config.specs.Rules.{interface_of, list_of};
 ghost use Rattle.ios_config.specs.Reads.{effects};
@@ -47,7 +48,7 @@ impl From<NoMemory> for ConfigFail {
 /// configuration has fewer interfaces than its text has bytes, so the names of several texts can be
 /// counted by their bytes.
 pub fn read_config(alloc: Global, bytes: &[u8]) -> Result<Reading, ConfigFail>
-    requires { length bytes.now ≤ 16777216 }
+    requires { length bytes.now ≤ text_limit }
     ensures reads { Answers bytes.now result }
     ensures interfaces { IfOk result (λ r. length r.config.interfaces < length bytes.now) }
 {
@@ -56,7 +57,7 @@ pub fn read_config(alloc: Global, bytes: &[u8]) -> Result<Reading, ConfigFail>
 
 /// What the text is read as.
 fn read_text(alloc: Global, bytes: &[u8]) -> Result<Reading, ConfigFail>
-    requires { length bytes.now ≤ 16777216 }
+    requires { length bytes.now ≤ text_limit }
     ensures { Answers bytes.now result }
 {
     let lines = lines(alloc, bytes)?;
@@ -66,7 +67,7 @@ fn read_text(alloc: Global, bytes: &[u8]) -> Result<Reading, ConfigFail>
 
 /// What the lines make, or the first refusal.
 fn read_lines(alloc: Global, bytes: &[u8], lines: &[Line]) -> Result<Draft, ConfigFail>
-    requires size { length bytes.now ≤ 16777216 }
+    requires size { length bytes.now ≤ text_limit }
     requires lines { lines.now ≡ lines_of bytes.now }
     ensures { Drafted (effects bytes.now) result }
 {

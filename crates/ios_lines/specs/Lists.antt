@@ -24,6 +24,7 @@ place_after true o = Some 0
 place_after false None = None
 place_after false (Some i) = Some (suc i)
 
+-- the first place of a name in a list of names
 abbrev pub place_of : Word → Words → Option ℕ
 place_of n [] = None
 place_of n (m ∷ ms) = place_after (bytes_eq n m) (place_of n ms)
@@ -33,6 +34,7 @@ abbrev pub put_name : Option ℕ → Words → Word → Words
 put_name None ns n = ns ++ n ∷ []
 put_name (Some i) ns n = ns
 
+-- a name that is written once more
 abbrev pub add_name : Words → Word → Words
 add_name ns n = put_name (place_of n ns) ns n
 
@@ -45,9 +47,11 @@ abbrev pub keep_if : {C : Type 0} → Bool → C → Option C
 keep_if true c = Some c
 keep_if false c = None
 
+-- what was written, where it is of this name
 abbrev pub written_of : {C : Type 0} → Word → Word × C → Option C
 written_of n w = keep_if (bytes_eq w.0 n) w.1
 
+-- all that was written of this name, in order
 abbrev pub changes_of : {C : Type 0} → Word → List (Word × C) → List C
 changes_of n ws = filter_map (written_of n) ws
 

@@ -7,6 +7,9 @@ use std::alloc::Global;
 use std::collections::BTreeMap;
 use std::marker::Model;
 
+// The greatest sequence number that an entry may have.
+const LAST_SEQUENCE: u32 = 2_147_483_647;
+
 /// Entries with their sequence numbers, rising.
 #[derive(Drop)]
 pub struct EntryBook {
@@ -65,7 +68,7 @@ impl EntryBook {
         let Some(greatest) = self.greatest() else {
             return Some(10);
         };
-        if greatest > 2147483637 {
+        if greatest > LAST_SEQUENCE - 10 {
             return None;
         }
         Some(greatest + 10)

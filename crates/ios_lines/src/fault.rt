@@ -1,6 +1,7 @@
 //! Why a configuration is refused.
 
 ghost use Rattle.std.specs.Prelude.{◌≡◌};
+ghost use Rattle.ios_lines.specs.Kinds.{kind_text};
 
 use net_types::{NoMemory, Text};
 use std::alloc::{AllocError, AllocFailed};
@@ -36,6 +37,30 @@ pub enum Kind {
     UnknownInterface,
     /// The text of a banner has no end.
     BannerOpen,
+}
+
+impl Kind {
+    /// The word that is printed of it.
+    pub fn name(self) -> &'static str
+        ensures { result.now ≡ kind_text self }
+    {
+        match self {
+            Kind::NotCovered => "NotCovered",
+            Kind::BadWord => "BadWord",
+            Kind::MissingWord => "MissingWord",
+            Kind::ExtraWord => "ExtraWord",
+            Kind::BadMask => "BadMask",
+            Kind::HostBits => "HostBits",
+            Kind::BadListNumber => "BadListNumber",
+            Kind::ListKindClash => "ListKindClash",
+            Kind::SequenceTaken => "SequenceTaken",
+            Kind::NatClash => "NatClash",
+            Kind::NoHostname => "NoHostname",
+            Kind::OverlapOnDevice => "OverlapOnDevice",
+            Kind::UnknownInterface => "UnknownInterface",
+            Kind::BannerOpen => "BannerOpen",
+        }
+    }
 }
 
 /// What is wrong in a line.

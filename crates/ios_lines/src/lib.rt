@@ -15,7 +15,8 @@ pub use effect::{
 };
 pub use fault::{Fault, Kind, ReadError, Refusal};
 pub use names::NameList;
+pub use net_text::cut;
 pub use words::{
-    Command, after, allowed, begins, cut, end, first, hop, is, next, read_address, read_mask,
+    Plain, Refuses, after, allowed, begins, end, first, hop, is, next, read_address, read_mask,
     read_number, refuse,
 };

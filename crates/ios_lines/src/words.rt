@@ -1,41 +1,35 @@
 //! Readers of a command's words, from left to right.
-ghost use Rattle.std.specs.Prelude.{◌≡◌, ◌≤◌, IfOk, take, drop, map};
+ghost use Rattle.std.specs.Prelude.{◌≡◌, ◌≤◌, Bool, IfOk, drop, map};
 ghost use Rattle.std.specs.Str.{bytes_eq};
 ghost use Rattle.ios_lines.specs.declared.fault.ReadError.TheVariants as errors;
-ghost use Rattle.ios_lines.specs.Words.{Gives, head_word, is_denied, next_word, allowed_word, address_at, mask_at, number_at, ended, begins, hop_of};
+ghost use Rattle.ios_lines.specs.Words.{Gives, head_word, none_refused, Word, next_word, allowed_word, address_at, mask_at, number_at, ended, begins, hop_of};
 
 use crate::fault::{Fault, Kind, ReadError};
 use ios_words::{address, mask_length, number};
+use net_text::cut;
 use net_types::{Duplicate, NoMemory, Text};
 use std::alloc::Global;
 
-/// A command, or a part of one, with its own words that aren't covered.
+/// A part of a command, with the words that aren't covered where they are read in it as the next word.
+pub trait Refuses {
+    /// The words that aren't covered.
+    ghost refused: { Self → Word → Bool };
+
+    /// Whether the word isn't covered.
+    fn refuses(&self, word: &Text) -> bool
+        ensures { result ≡ refused self.now word.now };
+}
+
+/// A part of a command where every word is covered.
 #[derive(Clone, Copy, Debug, PartialEq, Eq)]
-pub enum Command {
-    /// None.
-    Plain,
-    /// `ip address`
-    Address,
-    /// `ip route`, in the place of the prefix
-    RoutePrefix,
-    /// `ip route`, after the mask
-    RouteTail,
-    /// `ip nat inside source static`, in the place of the local address
-    NatLocal,
-    /// `ip nat inside source static`, in the place of the global address
-    NatGlobal,
-    /// `ip nat inside source static`, after the complete rule
-    NatEnd,
-    /// `ip access-list`, in the place of the kind
-    ListKind,
-    /// An entry, in the place of `permit` or `deny`
-    Entry,
-    /// An extended entry, in the place of the protocol
-    Protocol,
-    /// An extended entry, its source or destination
-    Endpoint,
-    /// An extended entry, after its destination
-    Trailing,
+pub struct Plain;
+
+impl Refuses for Plain {
+    ghost refused = { λ _ w. none_refused w };
+
+    fn refuses(&self, _word: &Text) -> bool {
+        false
+    }
 }
 
 /// Whether it is this word.
@@ -43,63 +37,6 @@ pub fn is(word: &Text, text: &[u8]) -> bool
     ensures { result ≡ bytes_eq word.now text.now }
 {
     word.as_bytes() == text
-}
-
-/// Whether the command doesn't cover this word.
-fn denies(command: Command, word: &Text) -> bool
-    ensures { result ≡ is_denied command word.now }
-{
-    match command {
-        Command::Plain => false,
-        Command::Address => is(word, b"dhcp") || is(word, b"negotiated"),
-        Command::RoutePrefix => is(word, b"vrf"),
-        Command::RouteTail => {
-            is(word, b"permanent")
-                || is(word, b"track")
-                || is(word, b"multicast")
-                || is(word, b"dhcp")
-        }
-        Command::NatLocal => is(word, b"network") || is(word, b"esp"),
-        Command::NatGlobal => is(word, b"interface"),
-        Command::NatEnd => !is(word, b"extendable"),
-        Command::ListKind => !(is(word, b"standard") || is(word, b"extended")),
-        Command::Entry => is(word, b"evaluate") || is(word, b"dynamic") || is(word, b"no"),
-        Command::Protocol => is(word, b"0") || is(word, b"object-group"),
-        Command::Endpoint => is(word, b"object-group") || is(word, b"interface"),
-        Command::Trailing => is_trailing_denied(word),
-    }
-}
-
-/// Whether an extended entry doesn't cover this word after its destination.
-fn is_trailing_denied(word: &Text) -> bool
-    ensures { result ≡ is_denied Command.Trailing word.now }
-{
-    is(word, b"fragments")
-        || is(word, b"dscp")
-        || is(word, b"precedence")
-        || is(word, b"tos")
-        || is(word, b"ttl")
-        || is(word, b"option")
-        || is(word, b"time-range")
-        || is(word, b"reflect")
-}
-
-/// The first 64 bytes.
-fn front(bytes: &[u8]) -> &[u8]
-    ensures { result.now ≡ take 64 bytes.now }
-{
-    if bytes.len() <= 64 {
-        return bytes;
-    }
-    let (front, _) = bytes.split_at(64);
-    front
-}
-
-/// The word, at most its first 64 bytes.
-pub fn cut(alloc: Global, word: &Text) -> Result<Text, NoMemory>
-    ensures { IfOk result (λ text. text ≡ take 64 word.now) }
-{
-    Text::copy_of(alloc, front(word.as_bytes()))
 }
 
 /// The first word, or nothing where there is none.
@@ -142,15 +79,15 @@ pub fn next(alloc: Global, words: &[Text]) -> Result<(&Text, &[Text]), ReadError
 
 /// The next word, which the command has to cover.
 #[tactic(auto, unfolding(crate::specs::Words::allowed_word))]
-pub fn allowed(
+pub fn allowed<C: Refuses + Copy>(
     alloc: Global,
-    command: Command,
+    command: C,
     words: &[Text],
 ) -> Result<(&Text, &[Text]), ReadError>
-    ensures { Gives (λ x. (x.0.now, x.1.now)) result (allowed_word command words.now) }
+    ensures { Gives (λ x. (x.0.now, x.1.now)) result (allowed_word (C.refused command) words.now) }
 {
     let (word, rest) = next(alloc, words)?;
-    if denies(command, word) {
+    if command.refuses(word) {
         return Err(refuse(Kind::NotCovered, cut(alloc, word)?));
     }
     Ok((word, rest))
@@ -158,12 +95,12 @@ pub fn allowed(
 
 /// The next word as an address.
 #[tactic(auto, unfolding(crate::specs::Words::address_at))]
-pub fn read_address(
+pub fn read_address<C: Refuses + Copy>(
     alloc: Global,
-    command: Command,
+    command: C,
     words: &[Text],
 ) -> Result<(u32, &[Text]), ReadError>
-    ensures { Gives (λ x. (x.0, x.1.now)) result (address_at command words.now) }
+    ensures { Gives (λ x. (x.0, x.1.now)) result (address_at (C.refused command) words.now) }
 {
     let (word, rest) = allowed(alloc, command, words)?;
     let Some(value) = address(word.as_bytes()) else {
@@ -174,13 +111,13 @@ pub fn read_address(
 
 /// The length of the next word as a contiguous mask, which has to be at least `least`.
 #[tactic(auto, unfolding(crate::specs::Words::mask_at))]
-pub fn read_mask(
+pub fn read_mask<C: Refuses + Copy>(
     alloc: Global,
-    command: Command,
+    command: C,
     least: u8,
     words: &[Text],
 ) -> Result<(u8, &[Text]), ReadError>
-    ensures value { Gives (λ x. (x.0, x.1.now)) result (mask_at command least words.now) }
+    ensures value { Gives (λ x. (x.0, x.1.now)) result (mask_at (C.refused command) least words.now) }
     ensures small { IfOk result (λ x. x.0 ≤ 32) }
 {
     let (word, rest) = allowed(alloc, command, words)?;
@@ -198,15 +135,15 @@ pub fn read_mask(
 
 /// The next word as a number from `low` to `high`.
 #[tactic(auto, unfolding(crate::specs::Words::number_at))]
-pub fn read_number(
+pub fn read_number<C: Refuses + Copy>(
     alloc: Global,
-    command: Command,
+    command: C,
     low: u32,
     high: u32,
     words: &[Text],
 ) -> Result<(u32, &[Text]), ReadError>
     requires { low ≤ high }
-    ensures value { Gives (λ x. (x.0, x.1.now)) result (number_at command low high words.now) }
+    ensures value { Gives (λ x. (x.0, x.1.now)) result (number_at (C.refused command) low high words.now) }
     ensures within { IfOk result (λ x. low ≤ x.0 × x.0 ≤ high) }
 {
     let (word, rest) = allowed(alloc, command, words)?;
@@ -218,8 +155,8 @@ pub fn read_number(
 
 /// That no word is left.
 #[tactic(auto, unfolding(crate::specs::Words::ended))]
-pub fn end(alloc: Global, command: Command, words: &[Text]) -> Result<(), ReadError>
-    ensures { Gives (λ x. x) result (ended command words.now) }
+pub fn end<C: Refuses + Copy>(alloc: Global, command: C, words: &[Text]) -> Result<(), ReadError>
+    ensures { Gives (λ x. x) result (ended (C.refused command) words.now) }
 {
     if words.is_empty() {
         return Ok(());

@@ -20,6 +20,7 @@ ghost use Rattle.ios_lists.specs.Entries.{
   proto_at,
   port_at,
   leading,
+  ports_limit,
   equal_test,
   other_test,
   greater_test,
@@ -54,12 +55,16 @@ ghost use Rattle.ios_lists.specs.Entries.{
   entry_at,
 };
 
+use crate::refused::ListPart;
 use ios_lines::{
-    Command, Kind, ReadError, after, allowed, cut, end, hop, is, next, read_address, refuse,
+    Kind, Plain, ReadError, Refuses, after, allowed, cut, end, hop, is, next, read_address, refuse,
 };
 use ios_words::{address, flag, icmp, number, port, proto};
 use net_types::{Entry, FlagTest, IcmpTest, List, Masked, NoMemory, PortTest, Text};
 use std::alloc::Global;
+
+// The most ports of an `eq`.
+const PORTS_LIMIT: usize = 10;
 
 /// What is written after the destination of an entry.
 #[derive(Clone, Copy, Debug, PartialEq, Eq)]
@@ -105,7 +110,7 @@ fn standard_entry(
     ensures { Gives (λ e. e) result (standard_entry sequence permit words.now) }
 {
     let (src, rest) = standard_source(alloc, words)?;
-    end(alloc, Command::Plain, after_log(rest))?;
+    end(alloc, Plain, after_log(rest))?;
     Ok(Entry {
         sequence,
         permit,
@@ -187,10 +192,14 @@ fn masked(address: u32, wild: u32) -> Masked
 
 /// `host A`
 #[tactic(auto, unfolding(crate::specs::Entries::host_at))]
-fn host(alloc: Global, command: Command, words: &[Text]) -> Result<(Masked, &[Text]), ReadError>
-    ensures { Gives (λ x. (x.0, x.1.now)) result (host_at command words.now) }
+fn host<C: Refuses + Copy>(
+    alloc: Global,
+    part: C,
+    words: &[Text],
+) -> Result<(Masked, &[Text]), ReadError>
+    ensures { Gives (λ x. (x.0, x.1.now)) result (host_at (C.refused part) words.now) }
 {
-    let (address, rest) = read_address(alloc, command, words)?;
+    let (address, rest) = read_address(alloc, part, words)?;
     Ok((one_address(address), rest))
 }
 
@@ -214,7 +223,7 @@ fn standard_by<'a>(
         return Ok((any_address(), words));
     }
     if is(word, b"host") {
-        return host(alloc, Command::Plain, words);
+        return host(alloc, Plain, words);
     }
     lone_address(alloc, word, words)
 }
@@ -247,7 +256,7 @@ fn with_wildcard(address: u32, words: &[Text], wild: Option<u32>) -> (Masked, &[
 fn endpoint(alloc: Global, words: &[Text]) -> Result<(Masked, &[Text]), ReadError>
     ensures { Gives (λ x. (x.0, x.1.now)) result (endpoint_at words.now) }
 {
-    let (word, rest) = allowed(alloc, Command::Endpoint, words)?;
+    let (word, rest) = allowed(alloc, ListPart::Endpoint, words)?;
     endpoint_by(alloc, word, rest)
 }
 
@@ -262,7 +271,7 @@ fn endpoint_by<'a>(
         return Ok((any_address(), words));
     }
     if is(word, b"host") {
-        return host(alloc, Command::Endpoint, words);
+        return host(alloc, ListPart::Endpoint, words);
     }
     wild_address(alloc, word, words)
 }
@@ -278,7 +287,7 @@ fn wild_address<'a>(
     let Some(value) = address(word.as_bytes()) else {
         return Err(refuse(Kind::BadWord, cut(alloc, word)?));
     };
-    let (wild, rest) = read_address(alloc, Command::Endpoint, words)?;
+    let (wild, rest) = read_address(alloc, ListPart::Endpoint, words)?;
     Ok((masked(value, wild), rest))
 }
 
@@ -287,7 +296,7 @@ fn wild_address<'a>(
 fn read_proto(alloc: Global, words: &[Text]) -> Result<(Option<u8>, &[Text]), ReadError>
     ensures { Gives (λ x. (x.0, x.1.now)) result (proto_at words.now) }
 {
-    let (word, rest) = allowed(alloc, Command::Protocol, words)?;
+    let (word, rest) = allowed(alloc, ListPart::Protocol, words)?;
     if is(word, b"ip") {
         return Ok((None, rest));
     }
@@ -382,12 +391,12 @@ fn equal_test(alloc: Global, proto: u8, words: &[Text]) -> Result<(PortTest, &[T
 
 /// Adds the ports at the head of the words, at most nine, and tells how many.
 fn more_ports(ports: &mut Vec<u16>, proto: u8, words: &[Text]) -> Result<usize, NoMemory>
-    ensures ports { IfOk result (λ _. ports.new.items ≡ ports.old.items ++ take 9 (leading proto words.now)) }
-    ensures count { IfOk result (λ n. n ≡ length (take 9 (leading proto words.now))) }
+    ensures ports { IfOk result (λ _. ports.new.items ≡ ports.old.items ++ take (ports_limit - 1) (leading proto words.now)) }
+    ensures count { IfOk result (λ n. n ≡ length (take (ports_limit - 1) (leading proto words.now))) }
 {
     let mut count = 0;
     for word in words {
-        if count >= 9 {
+        if count >= PORTS_LIMIT - 1 {
             return Ok(count);
         }
         let Some(value) = port(word.as_bytes(), proto) else {
@@ -443,7 +452,7 @@ fn trailing_words(alloc: Global, proto: Option<u8>, words: &[Text]) -> Result<Tr
 {
     let (trailing, rest) = trailing_word(alloc, proto, no_trailing(), words)?;
     let (trailing, rest) = trailing_word(alloc, proto, trailing, rest)?;
-    end(alloc, Command::Trailing, rest)?;
+    end(alloc, ListPart::Trailing, rest)?;
     Ok(trailing)
 }
 
@@ -471,7 +480,7 @@ fn trailing_word(
     if words.is_empty() {
         return Ok((trailing, words));
     }
-    let (word, rest) = allowed(alloc, Command::Trailing, words)?;
+    let (word, rest) = allowed(alloc, ListPart::Trailing, words)?;
     trailing_by(alloc, proto, trailing, word, rest)
 }
 
@@ -664,7 +673,7 @@ fn all_flags(
 fn flag_masks(alloc: Global, words: &[Text]) -> Result<(FlagMasks, &[Text]), ReadError>
     ensures { Gives (λ x. (x.0, x.1.now)) result (signed_at words.now) }
 {
-    let (word, rest) = allowed(alloc, Command::Trailing, words)?;
+    let (word, rest) = allowed(alloc, ListPart::Trailing, words)?;
     let Some((sign, bit)) = signed(word.as_bytes()) else {
         return Err(refuse(Kind::BadWord, cut(alloc, word)?));
     };

@@ -6,5 +6,6 @@
 
 mod entries;
 mod lists;
+mod refused;
 
 pub use lists::{list_line, numbered_list, open_list};

@@ -6,9 +6,10 @@ ghost use Rattle.ios_lines.specs.Books.{next_sequence, has_sequence};
 ghost use Rattle.ios_lists.specs.Entries.{entry_at};
 
 use crate::entries::read_entry;
+use crate::refused::ListPart;
 use ios_lines::{
-    Action, Command, Kind, ListLine, NameList, ReadError, WrittenList, allowed, cut, end, first,
-    is, next, refuse,
+    Action, Kind, ListLine, NameList, Plain, ReadError, WrittenList, allowed, cut, end, first, is,
+    next, refuse,
 };
 use ios_words::{is_numeral, number};
 use net_types::{Duplicate, Entry, Text};
@@ -88,7 +89,7 @@ fn kind_by_number(word: &Text) -> Option<bool>
 fn read_verb(alloc: Global, words: &[Text]) -> Result<(Verb, &[Text]), ReadError>
     ensures { Gives (λ x. (x.0, x.1.now)) result (verb_at words.now) }
 {
-    let (word, rest) = allowed(alloc, Command::Entry, words)?;
+    let (word, rest) = allowed(alloc, ListPart::Entry, words)?;
     if is(word, b"permit") {
         return Ok((Verb::Permit, rest));
     }
@@ -259,7 +260,7 @@ pub fn numbered_list(
 fn read_kind(alloc: Global, words: &[Text]) -> Result<(bool, &[Text]), ReadError>
     ensures { Gives (λ x. (x.0, x.1.now)) result (kind_at words.now) }
 {
-    let (word, rest) = allowed(alloc, Command::ListKind, words)?;
+    let (word, rest) = allowed(alloc, ListPart::Kind, words)?;
     Ok((is(word, b"extended"), rest))
 }
 
@@ -311,7 +312,7 @@ pub fn open_list(
     let (extended, rest) = read_kind(alloc, words)?;
     let (word, rest) = next(alloc, rest)?;
     opened(alloc, names, lists, extended, word)?;
-    end(alloc, Command::Plain, rest)?;
+    end(alloc, Plain, rest)?;
     let name = word.copy(alloc)?;
     Ok(Action::OpenList { name, extended })
 }

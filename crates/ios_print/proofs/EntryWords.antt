@@ -11,15 +11,16 @@ use Rattle.net_types.specs.declared.config.PortTest.TheVariants as ports
 use Rattle.net_types.specs.declared.config.IcmpTest.{IcmpTest}
 use Rattle.net_types.specs.declared.config.FlagTest.{FlagTest}
 use Rattle.ios_lines.specs.declared.fault.Fault.{Fault}
-use Rattle.ios_lines.specs.declared.words.Command.TheVariants as command
-use Rattle.ios_lines.specs.Words.{Word, Words, is_denied, address_at, allowed_word, ended}
+use Rattle.ios_lists.specs.declared.refused.ListPart.TheVariants as list_part
+use Rattle.ios_lists.specs.Refused.{list_refuses}
+use Rattle.ios_lines.specs.Words.{Word, Words, address_at, allowed_word, ended}
 use Rattle.ios_lists.specs.Entries.{masked_by, endpoint_at, wild_address, standard_at, lone_address, standard_entry, proto_at, port_at, leading, equal_test, other_test, greater_test, less_test, range_test, port_test_at, has_ports}
 use Rattle.ios_print.specs.Print.{address_word, masked_words, proto_word, port_words}
 use Rattle.ios_print.specs.PrintableLists.{IsMasked, IsProto, IsPortNumber, IsPortTest, tests_ports, IsStandard}
 use Rattle.ios_print.proofs.Digits.{address_back, digital_address, digital_number, other_word, zero_value, Digital}
 use Rattle.ios_print.proofs.Names.{proto_back, port_back, no_port}
 
-endpoint_covered : (w : Word) → Digital w → is_denied command.Endpoint w ≡ false
+endpoint_covered : (w : Word) → Digital w → list_refuses list_part.Endpoint w ≡ false
 endpoint_covered w d = rw (other_word w 111 (codes "bject-group") d refl, other_word w 105 (codes "nterface") d refl) refl
 
 same_masked : (m : Masked) → IsMasked m → masked_by m.value m.wild ≡ m

@@ -11,13 +11,14 @@ use Rattle.net_types.specs.declared.config.RouteExit.TheVariants as exit
 use Rattle.ios_words.specs.Words.{address_of, number_of}
 use Rattle.ios_lines.specs.declared.fault.Fault.{Fault}
 use Rattle.ios_lines.specs.declared.fault.Kind.TheVariants as kind
-use Rattle.ios_lines.specs.declared.words.Command.TheVariants as command
+use Rattle.ios_commands.specs.declared.refused.CommandPart.TheVariants as command_part
+use Rattle.ios_commands.specs.Refused.{command_refuses}
 use Rattle.ios_lines.specs.declared.effect.Action.{Action}
 use Rattle.ios_lines.specs.declared.effect.Action.TheVariants as action
 use Rattle.ios_lines.specs.declared.effect.Change.{Change}
 use Rattle.ios_lines.specs.declared.effect.Change.TheVariants as change
 use Rattle.ios_lines.specs.declared.effect.WrittenAddress.{WrittenAddress}
-use Rattle.ios_lines.specs.Words.{◌>>=◌, Word, Words, fault_of, head_word, is_denied, next_word, allowed_word, address_at, mask_at, number_at, ended, hop_of}
+use Rattle.ios_lines.specs.Words.{none_refused, ◌>>=◌, Word, Words, fault_of, head_word, next_word, allowed_word, address_at, mask_at, number_at, ended, hop_of}
 use Rattle.ios_commands.specs.declared.routes.RouteOptions.{RouteOptions}
 use Rattle.ios_commands.specs.Tables.{refused_by, fits_row, uncovered}
 use Rattle.ios_commands.specs.Interfaces.{after_link_kind, interface_action, subnet_of, written_at, begins_secondary, after_secondary, address_change, address_action, plain_action, direction_at, group_action}
@@ -70,8 +71,8 @@ IsWrittenAddress a = IsAddress a.0.subnet
 
 written_has : (line : ℕ) (ws : Words) → Each ws → Has IsWrittenAddress (written_at line ws)
 unfolding written_at
-written_has line ws e = then_has (λ a. (a.0 < 4294967296) × Each a.1) IsWrittenAddress (address_at command.Address ws) _ (address_has command.Address ws e) (λ a h.
-    then_has (λ m. (1 ≤ m.0) × Each m.1) IsWrittenAddress (mask_at command.Address 1 a.1) _ (mask_has command.Address 1 a.1 h.1) (λ m k.
+written_has line ws e = then_has (λ a. (a.0 < 4294967296) × Each a.1) IsWrittenAddress (address_at (command_refuses command_part.Address) ws) _ (address_has (command_refuses command_part.Address) ws e) (λ a h.
+    then_has (λ m. (1 ≤ m.0) × Each m.1) IsWrittenAddress (mask_at (command_refuses command_part.Address) 1 a.1) _ (mask_has (command_refuses command_part.Address) 1 a.1 h.1) (λ m k.
     record { address = h.0; some = omega (arith, k.0) }))
 
 fine_address : (b : Bool) (a : WrittenAddress) → IsAddress a.subnet → IsFineChange (address_change b a)
@@ -82,11 +83,11 @@ module _ (rules : List NatRule) where
   pub address_fine : (n : Word) (line : ℕ) (ws : Words) → IsName n → Each ws → Has (IsFineAction rules) (address_action n line ws)
   unfolding address_action
   address_fine n line ws k e = then_has IsWrittenAddress (IsFineAction rules) (written_at line ws) _ (written_has line ws e) (λ a h.
-      after_any (IsFineAction rules) (ended command.Address (after_secondary (begins_secondary a.1) a.1)) _ (λ u. (k, fine_address (begins_secondary a.1) a.0 h)))
+      after_any (IsFineAction rules) (ended (command_refuses command_part.Address) (after_secondary (begins_secondary a.1) a.1)) _ (λ u. (k, fine_address (begins_secondary a.1) a.0 h)))
 
   pub plain_fine : (n : Word) (c : Change) (ws : Words) → IsName n → IsFineChange c → Has (IsFineAction rules) (plain_action n c ws)
   unfolding plain_action
-  plain_fine n c ws k f = after_any (IsFineAction rules) (ended command.Plain ws) _ (λ u. (k, f))
+  plain_fine n c ws k f = after_any (IsFineAction rules) (ended none_refused ws) _ (λ u. (k, f))
 
   direction_has : (list : Word) (ws : Words) → IsWord list → Has (λ c. IsFineChange c.0) (direction_at list ws)
   unfolding direction_at
@@ -98,20 +99,20 @@ module _ (rules : List NatRule) where
   unfolding group_action
   group_fine n ws k e = then_has (λ w. IsWord w.0 × Each w.1) (IsFineAction rules) (next_word ws) _ (next_has ws e) (λ w h.
       then_has (λ c. IsFineChange c.0) (IsFineAction rules) (direction_at w.0 w.1) _ (direction_has w.0 w.1 h.0) (λ c f.
-      after_any (IsFineAction rules) (ended command.Plain c.1) _ (λ u. (k, f))))
+      after_any (IsFineAction rules) (ended none_refused c.1) _ (λ u. (k, f))))
 
   pub interface_fine : (ws : Words) → Each ws → Has (IsFineAction rules) (interface_action ws)
   unfolding interface_action
   interface_fine ws e = then_has (λ w. IsWord w.0 × Each w.1) (IsFineAction rules) (next_word ws) _ (next_has ws e) (λ w h.
-      after_any (IsFineAction rules) (ended command.Plain (after_link_kind w.1)) _ (λ u.
+      after_any (IsFineAction rules) (ended none_refused (after_link_kind w.1)) _ (λ u.
       if_has (IsFineAction rules) (bytes_eq w.0 (codes "Null0")) (Ok (action.Pass true)) (Ok (action.Interface w.0 change.Open)) (λ b. tt) (λ b. ((h.0, b), tt))))
 
 -- ---- routes
 
 prefix_has : (ws : Words) → Each ws → Has (λ p. (p.0.address < 4294967296) × (is_prefix p.0 ≡ true) × Each p.1) (prefix_at ws)
 unfolding prefix_at
-prefix_has ws e = then_has (λ a. (a.0 < 4294967296) × Each a.1) (λ p. (p.0.address < 4294967296) × (is_prefix p.0 ≡ true) × Each p.1) (address_at command.RoutePrefix ws) _ (address_has command.RoutePrefix ws e) (λ a h.
-    then_has (λ m. (0 ≤ m.0) × Each m.1) (λ p. (p.0.address < 4294967296) × (is_prefix p.0 ≡ true) × Each p.1) (mask_at command.Plain 0 a.1) _ (mask_has command.Plain 0 a.1 h.1) (λ m k.
+prefix_has ws e = then_has (λ a. (a.0 < 4294967296) × Each a.1) (λ p. (p.0.address < 4294967296) × (is_prefix p.0 ≡ true) × Each p.1) (address_at (command_refuses command_part.RoutePrefix) ws) _ (address_has (command_refuses command_part.RoutePrefix) ws e) (λ a h.
+    then_has (λ m. (0 ≤ m.0) × Each m.1) (λ p. (p.0.address < 4294967296) × (is_prefix p.0 ≡ true) × Each p.1) (mask_at none_refused 0 a.1) _ (mask_has none_refused 0 a.1 h.1) (λ m k.
     if_has (λ p. (p.0.address < 4294967296) × (is_prefix p.0 ≡ true) × Each p.1) (is_prefix (subnet_of a.0 m.0)) (Ok (subnet_of a.0 m.0, m.1)) _ (λ b. (h.0, b, k.1)) (λ b. tt)))
 
 hop_bound : (ws : Words) (a : ℕ) → hop_of ws ≡ Some a → a < 4294967296
@@ -122,7 +123,7 @@ fine_port : (name : Word) (ws : Words) (o : Option ℕ) → hop_of ws ≡ o → 
 fine_port name ws None e p = p
 fine_port name ws (Some a) e p = (p, hop_bound ws a e)
 
-exit_by_has : (w : Word) (ws : Words) (o : Option ℕ) → address_of w ≡ o → IsWord w → is_denied command.RouteTail w ≡ false → IsExit (exit_by o w ws).0
+exit_by_has : (w : Word) (ws : Words) (o : Option ℕ) → address_of w ≡ o → IsWord w → command_refuses command_part.RouteTail w ≡ false → IsExit (exit_by o w ws).0
 exit_by_has w ws (Some a) e i d = address_bound w a e
 exit_by_has w ws None e i d = go (bytes_eq w (codes "Null0")) refl
   where
@@ -132,7 +133,7 @@ exit_by_has w ws None e i d = go (bytes_eq w (codes "Null0")) refl
 
 exit_has : (ws : Words) → Each ws → Has (λ x. IsExit x.0) (exit_at ws)
 unfolding exit_at
-exit_has ws e = then_has (λ w. IsWord w.0 × (is_denied command.RouteTail w.0 ≡ false) × Each w.1) (λ x. IsExit x.0) (allowed_word command.RouteTail ws) _ (allowed_has command.RouteTail ws e) (λ w h. exit_by_has w.0 w.1 (address_of w.0) refl h.0 h.1)
+exit_has ws e = then_has (λ w. IsWord w.0 × (command_refuses command_part.RouteTail w.0 ≡ false) × Each w.1) (λ x. IsExit x.0) (allowed_word (command_refuses command_part.RouteTail) ws) _ (allowed_has (command_refuses command_part.RouteTail) ws e) (λ w h. exit_by_has w.0 w.1 (address_of w.0) refl h.0 h.1)
 
 -- a distance that is written is 1 to 255
 abbrev IsDistance : Option ℕ → Type 0
@@ -158,7 +159,7 @@ name_has o ws d = after_any IsOption (next_word ws) _ (λ w. d)
 
 tag_has : (o : RouteOptions) (ws : Words) → IsDistance o.distance → Has IsOption (tag_option o ws)
 unfolding tag_option
-tag_has o ws d = after_any IsOption (number_at command.RouteTail 0 4294967295 ws) _ (λ w. d)
+tag_has o ws d = after_any IsOption (number_at (command_refuses command_part.RouteTail) 0 4294967295 ws) _ (λ w. d)
 
 option_by_has : (o : RouteOptions) (w : Word) (ws : Words) → IsDistance o.distance → Has IsOption (option_by o w ws)
 unfolding option_by
@@ -169,7 +170,7 @@ option_by_has o w ws d =
 option_has : (o : RouteOptions) (ws : Words) → IsDistance o.distance → Has IsOption (option_at o ws)
 unfolding option_at
 option_has o [] d = d
-option_has o (x ∷ xs) d = after_any IsOption (allowed_word command.RouteTail (x ∷ xs)) _ (λ w. option_by_has o w.0 w.1 d)
+option_has o (x ∷ xs) d = after_any IsOption (allowed_word (command_refuses command_part.RouteTail) (x ∷ xs)) _ (λ w. option_by_has o w.0 w.1 d)
 
 options_has : (ws : Words) → Has (λ o. IsDistance o.distance) (options_at ws)
 unfolding options_at
@@ -177,7 +178,7 @@ options_has ws =
     then_has IsOption (λ o. IsDistance o.distance) (option_at no_options ws) _ (option_has no_options ws tt) (λ a h.
     then_has IsOption (λ o. IsDistance o.distance) (option_at a.0 a.1) _ (option_has a.0 a.1 h) (λ b k.
     then_has IsOption (λ o. IsDistance o.distance) (option_at b.0 b.1) _ (option_has b.0 b.1 k) (λ c l.
-    after_any (λ o. IsDistance o.distance) (ended command.RouteTail c.1) _ (λ u. l))))
+    after_any (λ o. IsDistance o.distance) (ended (command_refuses command_part.RouteTail) c.1) _ (λ u. l))))
 
 distance_bounds : (o : Option ℕ) → IsDistance o → (1 ≤ unwrap_or o 1) × (unwrap_or o 1 ≤ 255)
 distance_bounds None d = (omega arith, omega arith)
@@ -216,24 +217,24 @@ module _ (rules : List NatRule) where
   address_rule_fine : (ws : Words) → Each ws → Has (IsFineAction rules) (address_rule rules ws)
   unfolding address_rule
   address_rule_fine ws e =
-      then_has (λ a. (a.0 < 4294967296) × Each a.1) (IsFineAction rules) (address_at command.NatLocal ws) _ (address_has command.NatLocal ws e) (λ l h.
-      then_has (λ a. (a.0 < 4294967296) × Each a.1) (IsFineAction rules) (address_at command.NatGlobal l.1) _ (address_has command.NatGlobal l.1 h.1) (λ g k.
+      then_has (λ a. (a.0 < 4294967296) × Each a.1) (IsFineAction rules) (address_at (command_refuses command_part.NatLocal) ws) _ (address_has (command_refuses command_part.NatLocal) ws e) (λ l h.
+      then_has (λ a. (a.0 < 4294967296) × Each a.1) (IsFineAction rules) (address_at (command_refuses command_part.NatGlobal) l.1) _ (address_has (command_refuses command_part.NatGlobal) l.1 h.1) (λ g k.
       rule_fine (record { kind = nat.Plain; local = l.0; local_port = 0; global = g.0; global_port = 0 }) (head_word ws) (head_word l.1) g.1 h.0 k.0 (refl, refl)))
 
   -- the two kinds that have ports
   port_rule_fine : (n : NatKind) → ((r : NatRule) → (1 ≤ r.local_port) × (r.local_port ≤ 65535) × (1 ≤ r.global_port) × (r.global_port ≤ 65535) → IsPortPair r n) → (ws : Words) → Each ws → Has (IsFineAction rules) (port_rule rules n ws)
   unfolding port_rule
   port_rule_fine n ports ws e =
-      then_has (λ a. (a.0 < 4294967296) × Each a.1) (IsFineAction rules) (address_at command.NatLocal ws) _ (address_has command.NatLocal ws e) (λ l h.
-      then_has (λ p. (1 ≤ p.0) × (p.0 ≤ 65535) × Each p.1) (IsFineAction rules) (number_at command.Plain 1 65535 l.1) _ (number_has command.Plain 1 65535 l.1 h.1) (λ m i.
-      then_has (λ a. (a.0 < 4294967296) × Each a.1) (IsFineAction rules) (address_at command.NatGlobal m.1) _ (address_has command.NatGlobal m.1 i.2) (λ g k.
-      then_has (λ p. (1 ≤ p.0) × (p.0 ≤ 65535) × Each p.1) (IsFineAction rules) (number_at command.Plain 1 65535 g.1) _ (number_has command.Plain 1 65535 g.1 k.1) (λ q j.
+      then_has (λ a. (a.0 < 4294967296) × Each a.1) (IsFineAction rules) (address_at (command_refuses command_part.NatLocal) ws) _ (address_has (command_refuses command_part.NatLocal) ws e) (λ l h.
+      then_has (λ p. (1 ≤ p.0) × (p.0 ≤ 65535) × Each p.1) (IsFineAction rules) (number_at none_refused 1 65535 l.1) _ (number_has none_refused 1 65535 l.1 h.1) (λ m i.
+      then_has (λ a. (a.0 < 4294967296) × Each a.1) (IsFineAction rules) (address_at (command_refuses command_part.NatGlobal) m.1) _ (address_has (command_refuses command_part.NatGlobal) m.1 i.2) (λ g k.
+      then_has (λ p. (1 ≤ p.0) × (p.0 ≤ 65535) × Each p.1) (IsFineAction rules) (number_at none_refused 1 65535 g.1) _ (number_has none_refused 1 65535 g.1 k.1) (λ q j.
       let r : NatRule = record { kind = n; local = l.0; local_port = m.0; global = g.0; global_port = q.0 } in
       rule_fine r (head_word ws) (head_word m.1) q.1 h.0 k.0 (ports r (i.0, i.1, j.0, j.1))))))
 
   pub static_fine : (ws : Words) → Each ws → Has (IsFineAction rules) (static_action rules ws)
   unfolding static_action
   static_fine ws e =
-      then_has (λ w. IsWord w.0 × (is_denied command.NatLocal w.0 ≡ false) × Each w.1) (IsFineAction rules) (allowed_word command.NatLocal ws) _ (allowed_has command.NatLocal ws e) (λ w h.
+      then_has (λ w. IsWord w.0 × (command_refuses command_part.NatLocal w.0 ≡ false) × Each w.1) (IsFineAction rules) (allowed_word (command_refuses command_part.NatLocal) ws) _ (allowed_has (command_refuses command_part.NatLocal) ws e) (λ w h.
       if_has (IsFineAction rules) (bytes_eq w.0 (codes "tcp")) (port_rule rules nat.Tcp w.1) _ (λ b. port_rule_fine nat.Tcp (λ r p. p) w.1 h.2) (λ b.
       if_has (IsFineAction rules) (bytes_eq w.0 (codes "udp")) (port_rule rules nat.Udp w.1) (address_rule rules ws) (λ c. port_rule_fine nat.Udp (λ r p. p) w.1 h.2) (λ c. address_rule_fine ws e)))

@@ -8,7 +8,6 @@ use Rattle.net_types.specs.declared.config.NatRule.{NatRule}
 use Rattle.net_types.specs.declared.config.Side.TheVariants as side
 use Rattle.ios_lines.specs.declared.fault.Fault.{Fault}
 use Rattle.ios_lines.specs.declared.fault.Kind.TheVariants as kind
-use Rattle.ios_lines.specs.declared.words.Command.TheVariants as command
 use Rattle.ios_lines.specs.declared.effect.Action.{Action}
 use Rattle.ios_lines.specs.declared.effect.Action.TheVariants as action
 use Rattle.ios_lines.specs.declared.effect.Change.{Change}
@@ -18,7 +17,7 @@ use Rattle.ios_lines.specs.declared.effect.Effect.TheVariants as effect
 use Rattle.ios_lines.specs.declared.effect.Section.{Section}
 use Rattle.ios_lines.specs.declared.effect.Section.TheVariants as section
 use Rattle.ios_lines.specs.declared.effect.WrittenList.{WrittenList}
-use Rattle.ios_lines.specs.Words.{Word, Words, fault_of, next_word, begins, ended}
+use Rattle.ios_lines.specs.Words.{none_refused, Word, Words, fault_of, next_word, begins, ended}
 use Rattle.ios_lines.specs.Books.{next_sequence}
 use Rattle.ios_lines.specs.Lists.{latest}
 use Rattle.ios_commands.specs.Tables.{global_rows, interface_rows, uncovered}
@@ -43,7 +42,7 @@ module _ (rules : List NatRule) where
   host_fine : (ws : Words) → Each ws → Has (IsFineAction rules) (hostname_action ws)
   unfolding hostname_action
   host_fine ws e = then_has (λ w. IsWord w.0 × Each w.1) (IsFineAction rules) (next_word ws) _ (next_has ws e) (λ w h.
-      after_any (IsFineAction rules) (ended command.Plain w.1) _ (λ u. h.0))
+      after_any (IsFineAction rules) (ended none_refused w.1) _ (λ u. h.0))
 
   -- what is written of access lists is judged apart
   section_any : (names : Words) (lists : List WrittenList) (n : Word) (extended : Bool) (ws : Words) → Has (IsFineAction rules) (section_action names lists n extended ws)
@@ -61,7 +60,7 @@ module _ (rules : List NatRule) where
   open_any names lists ws = after_any (IsFineAction rules) (kind_at ws) _ (λ k.
       after_any (IsFineAction rules) (next_word k.1) _ (λ w.
       after_any (IsFineAction rules) (opened k.0 (list_at names lists w.0) w.0) _ (λ o.
-      after_any (IsFineAction rules) (ended command.Plain w.1) _ (λ e. tt))))
+      after_any (IsFineAction rules) (ended none_refused w.1) _ (λ e. tt))))
 
   interface_command_fine : (n : Word) (line : ℕ) (ws : Words) → IsName n → Each ws → Has (IsFineAction rules) (interface_command n line ws)
   unfolding interface_command

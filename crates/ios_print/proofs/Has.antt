@@ -8,8 +8,7 @@ use Rattle.net_text.specs.Texts.{IsWord}
 use Rattle.ios_words.specs.Words.{is_numeral, is_within, number_of, octet_of, is_dot, of_four, address_of, mask_length_of}
 use Rattle.ios_lines.specs.declared.fault.Fault.{Fault}
 use Rattle.ios_lines.specs.declared.fault.Kind.TheVariants as kind
-use Rattle.ios_lines.specs.declared.words.Command.{Command}
-use Rattle.ios_lines.specs.Words.{◌>>=◌, Word, Words, fault_of, is_denied, next_word, allowed_word, address_at, mask_at, number_at}
+use Rattle.ios_lines.specs.Words.{◌>>=◌, Word, Words, fault_of, next_word, allowed_word, address_at, mask_at, number_at}
 
 abbrev pub Each : Words → Type 0
 Each ws = AllByRecursion IsWord ws
@@ -36,10 +35,10 @@ pub next_has : (ws : Words) → Each ws → Has (λ w. IsWord w.0 × Each w.1) (
 next_has [] e = tt
 next_has (w ∷ ws) e = (e.0, e.1)
 
-pub allowed_has : (c : Command) (ws : Words) → Each ws → Has (λ w. IsWord w.0 × (is_denied c w.0 ≡ false) × Each w.1) (allowed_word c ws)
+pub allowed_has : (c : Word → Bool) (ws : Words) → Each ws → Has (λ w. IsWord w.0 × (c w.0 ≡ false) × Each w.1) (allowed_word c ws)
 unfolding allowed_word
 allowed_has c [] e = tt
-allowed_has c (w ∷ ws) e = if_has (λ v. IsWord v.0 × (is_denied c v.0 ≡ false) × Each v.1) (is_denied c w) (Err (fault_of kind.NotCovered w)) (Ok (w, ws)) (λ h. tt) (λ h. (e.0, h, e.1))
+allowed_has c (w ∷ ws) e = if_has (λ v. IsWord v.0 × (c v.0 ≡ false) × Each v.1) (c w) (Err (fault_of kind.NotCovered w)) (Ok (w, ws)) (λ h. tt) (λ h. (e.0, h, e.1))
 
 both : (a b : Bool) → (a && b) ≡ true → (a ≡ true) × (b ≡ true)
 both true true h = (refl, refl)
@@ -89,19 +88,19 @@ four_bound (Some p ∷ Some q ∷ Some r ∷ Some s ∷ o ∷ os) a h e = absurd
 pub address_bound : (w : Word) (a : ℕ) → address_of w ≡ Some a → a < 4294967296
 address_bound w a h = four_bound (map octet_of (slice_split is_dot w)) a (are_octets (slice_split is_dot w)) h
 
-pub address_has : (c : Command) (ws : Words) → Each ws → Has (λ a. (a.0 < 4294967296) × Each a.1) (address_at c ws)
+pub address_has : (c : Word → Bool) (ws : Words) → Each ws → Has (λ a. (a.0 < 4294967296) × Each a.1) (address_at c ws)
 unfolding address_at
-address_has c ws e = then_has (λ w. IsWord w.0 × (is_denied c w.0 ≡ false) × Each w.1) (λ a. (a.0 < 4294967296) × Each a.1) (allowed_word c ws) _ (allowed_has c ws e) (λ w h.
+address_has c ws e = then_has (λ w. IsWord w.0 × (c w.0 ≡ false) × Each w.1) (λ a. (a.0 < 4294967296) × Each a.1) (allowed_word c ws) _ (allowed_has c ws e) (λ w h.
     then_has (λ a. a < 4294967296) (λ a. (a.0 < 4294967296) × Each a.1) (ok_or (address_of w.0) (fault_of kind.BadWord w.0)) _ (some_has (λ a. a < 4294967296) (address_of w.0) (fault_of kind.BadWord w.0) (address_bound w.0)) (λ a k. (k, h.2)))
 
-pub mask_has : (c : Command) (least : ℕ) (ws : Words) → Each ws → Has (λ m. (least ≤ m.0) × Each m.1) (mask_at c least ws)
+pub mask_has : (c : Word → Bool) (least : ℕ) (ws : Words) → Each ws → Has (λ m. (least ≤ m.0) × Each m.1) (mask_at c least ws)
 unfolding mask_at
-mask_has c least ws e = then_has (λ w. IsWord w.0 × (is_denied c w.0 ≡ false) × Each w.1) (λ m. (least ≤ m.0) × Each m.1) (allowed_word c ws) _ (allowed_has c ws e) (λ w h.
+mask_has c least ws e = then_has (λ w. IsWord w.0 × (c w.0 ≡ false) × Each w.1) (λ m. (least ≤ m.0) × Each m.1) (allowed_word c ws) _ (allowed_has c ws e) (λ w h.
     then_has (λ a. Unit {0}) (λ m. (least ≤ m.0) × Each m.1) (ok_or (address_of w.0) (fault_of kind.BadWord w.0)) _ (some_has (λ a. Unit {0}) (address_of w.0) (fault_of kind.BadWord w.0) (λ x k. tt)) (λ a k.
     then_has (λ n. Unit {0}) (λ m. (least ≤ m.0) × Each m.1) (ok_or (mask_length_of a) (fault_of kind.BadMask w.0)) _ (some_has (λ n. Unit {0}) (mask_length_of a) (fault_of kind.BadMask w.0) (λ x k. tt)) (λ n k.
     if_has (λ m. (least ≤ m.0) × Each m.1) (nat_lt n least) (Err (fault_of kind.BadMask w.0)) (Ok (n, w.1)) (λ b. tt) (λ b. (ltb-false n least b, h.2)))))
 
-pub number_has : (c : Command) (low high : ℕ) (ws : Words) → Each ws → Has (λ n. (low ≤ n.0) × (n.0 ≤ high) × Each n.1) (number_at c low high ws)
+pub number_has : (c : Word → Bool) (low high : ℕ) (ws : Words) → Each ws → Has (λ n. (low ≤ n.0) × (n.0 ≤ high) × Each n.1) (number_at c low high ws)
 unfolding number_at
-number_has c low high ws e = then_has (λ w. IsWord w.0 × (is_denied c w.0 ≡ false) × Each w.1) (λ n. (low ≤ n.0) × (n.0 ≤ high) × Each n.1) (allowed_word c ws) _ (allowed_has c ws e) (λ w h.
+number_has c low high ws e = then_has (λ w. IsWord w.0 × (c w.0 ≡ false) × Each w.1) (λ n. (low ≤ n.0) × (n.0 ≤ high) × Each n.1) (allowed_word c ws) _ (allowed_has c ws e) (λ w h.
     then_has (λ n. (low ≤ n) × (n ≤ high)) (λ n. (low ≤ n.0) × (n.0 ≤ high) × Each n.1) (ok_or (number_of low high w.0) (fault_of kind.BadWord w.0)) _ (some_has (λ n. (low ≤ n) × (n ≤ high)) (number_of low high w.0) (fault_of kind.BadWord w.0) (number_bounds low high w.0)) (λ n k. (k.0, k.1, h.2)))

@@ -13,7 +13,8 @@ use Rattle.net_types.specs.declared.config.Subnet.{Subnet}
 use Rattle.net_types.specs.declared.config.Side.{Side}
 use Rattle.net_types.specs.declared.config.Side.TheVariants as side
 use Rattle.ios_words.specs.Words.{mask_of}
-use Rattle.ios_lines.specs.declared.words.Command.TheVariants as command
+use Rattle.ios_commands.specs.declared.refused.CommandPart.TheVariants as command_part
+use Rattle.ios_commands.specs.Refused.{command_refuses}
 use Rattle.ios_lines.specs.declared.effect.Action.TheVariants as action
 use Rattle.ios_lines.specs.declared.effect.Effect.TheVariants as effect
 use Rattle.ios_lines.specs.declared.effect.Change.{Change}
@@ -22,7 +23,7 @@ use Rattle.ios_lines.specs.declared.effect.Section.{Section}
 use Rattle.ios_lines.specs.declared.effect.Section.TheVariants as section
 use Rattle.ios_lines.specs.declared.effect.WrittenAddress.{WrittenAddress}
 use Rattle.ios_lines.specs.declared.effect.WrittenInterface.{WrittenInterface}
-use Rattle.ios_lines.specs.Words.{Word, Words, is_denied, address_at, mask_at, allowed_word, ended}
+use Rattle.ios_lines.specs.Words.{Word, Words, address_at, mask_at, allowed_word, ended}
 use Rattle.ios_lines.specs.Lists.{place_of}
 use Rattle.ios_lines.proofs.Steps.{map_more}
 use Rattle.ios_lines.proofs.Keyed.{none_first, itself}
@@ -60,7 +61,7 @@ shorter a n m h k e = subst (λ x. (j : x ≤ 32) → ◌≡◌ {A = Subnet} (re
 pub same_subnet : (s : Subnet) → subnet_of s.address s.length ≡ s
 same_subnet s = shorter s.address (min s.length 32) s.length (min-le_right s.length 32) s.in_range (same_length s.length 32 s.in_range)
 
-allowed_address : (a : ℕ) → a < 4294967296 → is_denied command.Address (address_word a) ≡ false
+allowed_address : (a : ℕ) → a < 4294967296 → command_refuses command_part.Address (address_word a) ≡ false
 allowed_address a h = let d = digital_address a h in rw (other_word (address_word a) 100 (codes "hcp") d refl, other_word (address_word a) 110 (codes "egotiated") d refl) refl
 
 abbrev pub written : ℕ → Subnet → WrittenAddress

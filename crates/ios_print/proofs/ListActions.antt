@@ -12,7 +12,10 @@ use Rattle.net_types.specs.declared.config.Side.TheVariants as side
 use Rattle.ios_words.specs.Words.{number_of, is_numeral, is_within}
 use Rattle.ios_lines.specs.declared.fault.Fault.{Fault}
 use Rattle.ios_lines.specs.declared.fault.Kind.TheVariants as kind
-use Rattle.ios_lines.specs.declared.words.Command.TheVariants as command
+use Rattle.ios_lists.specs.declared.refused.ListPart.TheVariants as list_part
+use Rattle.ios_lists.specs.Refused.{list_refuses}
+use Rattle.ios_commands.specs.declared.refused.CommandPart.TheVariants as command_part
+use Rattle.ios_commands.specs.Refused.{command_refuses}
 use Rattle.ios_lines.specs.declared.effect.Action.{Action}
 use Rattle.ios_lines.specs.declared.effect.Action.TheVariants as action
 use Rattle.ios_lines.specs.declared.effect.Change.{Change}
@@ -20,7 +23,7 @@ use Rattle.ios_lines.specs.declared.effect.Change.TheVariants as change
 use Rattle.ios_lines.specs.declared.effect.Section.{Section}
 use Rattle.ios_lines.specs.declared.effect.Section.TheVariants as section
 use Rattle.ios_lines.specs.declared.effect.WrittenList.{WrittenList}
-use Rattle.ios_lines.specs.Words.{Word, Words, fault_of, head_word, is_denied, next_word, allowed_word, address_at, number_at, ended, begins}
+use Rattle.ios_lines.specs.Words.{none_refused, Word, Words, fault_of, head_word, next_word, allowed_word, address_at, number_at, ended, begins}
 use Rattle.ios_lines.specs.Books.{Book, next_sequence, has_sequence}
 use Rattle.ios_lines.proofs.Keyed.{Once}
 use Rattle.ios_commands.specs.Interfaces.{after_link_kind, interface_action, written_at, begins_secondary, after_secondary, address_action, plain_action, direction_at, group_action}
@@ -50,7 +53,7 @@ IsVerbAt v = Each v.1
 
 verb_has : (ws : Words) → Each ws → Has IsVerbAt (verb_at ws)
 unfolding verb_at
-verb_has ws e = then_has (λ w. IsWord w.0 × (is_denied command.Entry w.0 ≡ false) × Each w.1) IsVerbAt (allowed_word command.Entry ws) _ (allowed_has command.Entry ws e) (λ w h.
+verb_has ws e = then_has (λ w. IsWord w.0 × (list_refuses list_part.Entry w.0 ≡ false) × Each w.1) IsVerbAt (allowed_word (list_refuses list_part.Entry) ws) _ (allowed_has (list_refuses list_part.Entry) ws e) (λ w h.
     if_has IsVerbAt (bytes_eq w.0 (codes "permit")) (Ok (verb.Permit, w.1)) _ (λ b. h.2) (λ b.
     if_has IsVerbAt (bytes_eq w.0 (codes "deny")) (Ok (verb.Deny, w.1)) _ (λ c. h.2) (λ c.
     if_has IsVerbAt (bytes_eq w.0 (codes "remark")) (Ok (verb.Remark, w.1)) (Err (fault_of kind.BadWord w.0)) (λ d. h.2) (λ d. tt))))
@@ -144,7 +147,7 @@ IsFineAction ls s _ = Unit {0}
 
 kind_has : (ws : Words) → Each ws → Has (λ k. Each k.1) (kind_at ws)
 unfolding kind_at
-kind_has ws e = then_has (λ w. IsWord w.0 × (is_denied command.ListKind w.0 ≡ false) × Each w.1) (λ k. Each k.1) (allowed_word command.ListKind ws) _ (allowed_has command.ListKind ws e) (λ w h. h.2)
+kind_has ws e = then_has (λ w. IsWord w.0 × (list_refuses list_part.Kind w.0 ≡ false) × Each w.1) (λ k. Each k.1) (allowed_word (list_refuses list_part.Kind) ws) _ (allowed_has (list_refuses list_part.Kind) ws e) (λ w h. h.2)
 
 is_true : (b : Bool) → not b ≡ false → b ≡ true
 is_true true h = refl
@@ -176,7 +179,7 @@ module _ (ls : List WrittenList) (s : Section) where
       then_has (λ k. Each k.1) (IsFineAction ls s) (kind_at ws) _ (kind_has ws e) (λ k h.
       then_has (λ w. IsWord w.0 × Each w.1) (IsFineAction ls s) (next_word k.1) _ (next_has k.1 h) (λ w i.
       then_has (λ u. (has_range k.0 w.0 ≡ true) × (other_kind k.0 (list_at (names_in ls) ls w.0) ≡ false)) (IsFineAction ls s) (opened k.0 (list_at (names_in ls) ls w.0) w.0) _ (opened_has k.0 (list_at (names_in ls) ls w.0) w.0) (λ u j.
-      any_then (IsFineAction ls s) (ended command.Plain w.1) _ (λ v.
+      any_then (IsFineAction ls s) (ended none_refused w.1) _ (λ v.
       (record { name = i.0; range = j.0; entry = tt }, open_agree w.0 k.0 ls o j.1)))))
 
   -- ---- other commands
@@ -185,31 +188,31 @@ module _ (ls : List WrittenList) (s : Section) where
   unfolding hostname_action
   host_fine ws =
       any_then (IsFineAction ls s) (next_word ws) _ (λ w.
-      any_then (IsFineAction ls s) (ended command.Plain w.1) _ (λ u. tt))
+      any_then (IsFineAction ls s) (ended none_refused w.1) _ (λ u. tt))
 
   interface_fine : (ws : Words) → Has (IsFineAction ls s) (interface_action ws)
   unfolding interface_action
   interface_fine ws =
       any_then (IsFineAction ls s) (next_word ws) _ (λ w.
-      any_then (IsFineAction ls s) (ended command.Plain (after_link_kind w.1)) _ (λ u.
+      any_then (IsFineAction ls s) (ended none_refused (after_link_kind w.1)) _ (λ u.
       if_has (IsFineAction ls s) (bytes_eq w.0 (codes "Null0")) (Ok (action.Pass true)) (Ok (action.Interface w.0 change.Open)) (λ b. tt) (λ b. tt)))
 
   address_fine : (n : Word) (line : ℕ) (ws : Words) → Has (IsFineAction ls s) (address_action n line ws)
   unfolding address_action
   address_fine n line ws =
       any_then (IsFineAction ls s) (written_at line ws) _ (λ a.
-      any_then (IsFineAction ls s) (ended command.Address (after_secondary (begins_secondary a.1) a.1)) _ (λ u. tt))
+      any_then (IsFineAction ls s) (ended (command_refuses command_part.Address) (after_secondary (begins_secondary a.1) a.1)) _ (λ u. tt))
 
   plain_fine : (n : Word) (c : Change) (ws : Words) → Has (IsFineAction ls s) (plain_action n c ws)
   unfolding plain_action
-  plain_fine n c ws = any_then (IsFineAction ls s) (ended command.Plain ws) _ (λ u. tt)
+  plain_fine n c ws = any_then (IsFineAction ls s) (ended none_refused ws) _ (λ u. tt)
 
   group_fine : (n : Word) (ws : Words) → Has (IsFineAction ls s) (group_action n ws)
   unfolding group_action
   group_fine n ws =
       any_then (IsFineAction ls s) (next_word ws) _ (λ w.
       any_then (IsFineAction ls s) (direction_at w.0 w.1) _ (λ c.
-      any_then (IsFineAction ls s) (ended command.Plain c.1) _ (λ u. tt)))
+      any_then (IsFineAction ls s) (ended none_refused c.1) _ (λ u. tt)))
 
   route_fine : (line : ℕ) (ws : Words) → Has (IsFineAction ls s) (route_action line ws)
   unfolding route_action
@@ -224,21 +227,21 @@ module _ (ls : List WrittenList) (s : Section) where
   address_rule_fine : (rules : List NatRule) (ws : Words) → Has (IsFineAction ls s) (address_rule rules ws)
   unfolding address_rule
   address_rule_fine rules ws =
-      any_then (IsFineAction ls s) (address_at command.NatLocal ws) _ (λ l.
-      any_then (IsFineAction ls s) (address_at command.NatGlobal l.1) _ (λ g. rule_fine rules _ _ _ g.1))
+      any_then (IsFineAction ls s) (address_at (command_refuses command_part.NatLocal) ws) _ (λ l.
+      any_then (IsFineAction ls s) (address_at (command_refuses command_part.NatGlobal) l.1) _ (λ g. rule_fine rules _ _ _ g.1))
 
   port_rule_fine : (rules : List NatRule) (k : NatKind) (ws : Words) → Has (IsFineAction ls s) (port_rule rules k ws)
   unfolding port_rule
   port_rule_fine rules k ws =
-      any_then (IsFineAction ls s) (address_at command.NatLocal ws) _ (λ l.
-      any_then (IsFineAction ls s) (number_at command.Plain 1 65535 l.1) _ (λ m.
-      any_then (IsFineAction ls s) (address_at command.NatGlobal m.1) _ (λ g.
-      any_then (IsFineAction ls s) (number_at command.Plain 1 65535 g.1) _ (λ n. rule_fine rules _ _ _ n.1))))
+      any_then (IsFineAction ls s) (address_at (command_refuses command_part.NatLocal) ws) _ (λ l.
+      any_then (IsFineAction ls s) (number_at none_refused 1 65535 l.1) _ (λ m.
+      any_then (IsFineAction ls s) (address_at (command_refuses command_part.NatGlobal) m.1) _ (λ g.
+      any_then (IsFineAction ls s) (number_at none_refused 1 65535 g.1) _ (λ n. rule_fine rules _ _ _ n.1))))
 
   static_fine : (rules : List NatRule) (ws : Words) → Has (IsFineAction ls s) (static_action rules ws)
   unfolding static_action
   static_fine rules ws =
-      any_then (IsFineAction ls s) (allowed_word command.NatLocal ws) _ (λ w.
+      any_then (IsFineAction ls s) (allowed_word (command_refuses command_part.NatLocal) ws) _ (λ w.
       if_has (IsFineAction ls s) (bytes_eq w.0 (codes "tcp")) (port_rule rules nat.Tcp w.1) _ (λ b. port_rule_fine rules nat.Tcp w.1) (λ b.
       if_has (IsFineAction ls s) (bytes_eq w.0 (codes "udp")) (port_rule rules nat.Udp w.1) (address_rule rules ws) (λ c. port_rule_fine rules nat.Udp w.1) (λ c. address_rule_fine rules ws)))
 

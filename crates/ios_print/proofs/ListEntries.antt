@@ -17,9 +17,9 @@ use Rattle.ios_words.specs.Words.{address_of, number_of, is_within}
 use Rattle.ios_words.specs.Names.{value_of, protocols, proto_of, tcp_ports, udp_ports, ports_of, port_of, messages, icmp_of, tcp_flags, flag_of}
 use Rattle.ios_lines.specs.declared.fault.Fault.{Fault}
 use Rattle.ios_lines.specs.declared.fault.Kind.TheVariants as kind
-use Rattle.ios_lines.specs.declared.words.Command.{Command}
-use Rattle.ios_lines.specs.declared.words.Command.TheVariants as command
-use Rattle.ios_lines.specs.Words.{◌>>=◌, Word, Words, fault_of, is_denied, next_word, allowed_word, address_at, ended, hop_of}
+use Rattle.ios_lists.specs.declared.refused.ListPart.TheVariants as list_part
+use Rattle.ios_lists.specs.Refused.{list_refuses}
+use Rattle.ios_lines.specs.Words.{none_refused, ◌>>=◌, Word, Words, fault_of, next_word, allowed_word, address_at, ended, hop_of}
 use Rattle.ios_lists.specs.declared.entries.Trailing.{Trailing}
 use Rattle.ios_lists.specs.declared.entries.FlagMasks.{FlagMasks}
 use Rattle.ios_lists.specs.Entries.{any_address, one_address, masked_by, host_at, with_wildcard, lone_address, standard_by, standard_at, wild_address, endpoint_by, endpoint_at, after_log, standard_entry, proto_at, port_at, lead, leading, equal_test, other_test, greater_test, less_test, range_test, port_test_by, port_test_of, has_ports, port_test_at, no_trailing, is_log, with_flags, message_test, code_of, after_code, icmp_by, icmp_at, signed_by, signed_of, lead_flag, leading_flags, no_flags, add_flag, signed_at, any_flags, all_flags, bare_flag, flags_at, test_by, trailing_by, trailing_at, trailing_words, extended_entry, entry_at}
@@ -65,13 +65,13 @@ IsAddressed a = (a.0 < 4294967296) × Each a.1
 abbrev IsNext : Word × Words → Type 0
 IsNext w = IsWord w.0 × Each w.1
 
-abbrev IsAllowed : Command → Word × Words → Type 0
-IsAllowed c w = IsWord w.0 × (is_denied c w.0 ≡ false) × Each w.1
+abbrev IsAllowed : (Word → Bool) → Word × Words → Type 0
+IsAllowed c w = IsWord w.0 × (c w.0 ≡ false) × Each w.1
 
 bound_has : (w : Word) → Has (λ a. a < 4294967296) (ok_or (address_of w) (fault_of kind.BadWord w))
 bound_has w = some_has (λ a. a < 4294967296) (address_of w) (fault_of kind.BadWord w) (address_bound w)
 
-host_has : (c : Command) (ws : Words) → Each ws → Has IsEnd (host_at c ws)
+host_has : (c : Word → Bool) (ws : Words) → Each ws → Has IsEnd (host_at c ws)
 unfolding host_at
 host_has c ws e = then_has IsAddressed IsEnd (address_at c ws) _ (address_has c ws e) (λ a h. (one_is a.0 h.0, h.1))
 
@@ -90,7 +90,7 @@ lone_has w ws e = then_has (λ a. a < 4294967296) IsEnd (ok_or (address_of w) (f
 standard_by_has : (w : Word) (ws : Words) → Each ws → Has IsEnd (standard_by w ws)
 standard_by_has w ws e =
     if_has IsEnd (bytes_eq w (codes "any")) (Ok (any_address, ws)) _ (λ b. (any_is, e)) (λ b.
-    if_has IsEnd (bytes_eq w (codes "host")) (host_at command.Plain ws) (lone_address w ws) (λ c. host_has command.Plain ws e) (λ c. lone_has w ws e))
+    if_has IsEnd (bytes_eq w (codes "host")) (host_at none_refused ws) (lone_address w ws) (λ c. host_has none_refused ws e) (λ c. lone_has w ws e))
 
 standard_has : (ws : Words) → Each ws → Has IsEnd (standard_at ws)
 unfolding standard_at
@@ -100,16 +100,16 @@ wild_has : (w : Word) (ws : Words) → Each ws → Has IsEnd (wild_address w ws)
 unfolding wild_address
 wild_has w ws e =
     then_has (λ a. a < 4294967296) IsEnd (ok_or (address_of w) (fault_of kind.BadWord w)) _ (bound_has w) (λ a h.
-    then_has IsAddressed IsEnd (address_at command.Endpoint ws) _ (address_has command.Endpoint ws e) (λ m k. (masked_is a m.0 h k.0, k.1)))
+    then_has IsAddressed IsEnd (address_at (list_refuses list_part.Endpoint) ws) _ (address_has (list_refuses list_part.Endpoint) ws e) (λ m k. (masked_is a m.0 h k.0, k.1)))
 
 endpoint_by_has : (w : Word) (ws : Words) → Each ws → Has IsEnd (endpoint_by w ws)
 endpoint_by_has w ws e =
     if_has IsEnd (bytes_eq w (codes "any")) (Ok (any_address, ws)) _ (λ b. (any_is, e)) (λ b.
-    if_has IsEnd (bytes_eq w (codes "host")) (host_at command.Endpoint ws) (wild_address w ws) (λ c. host_has command.Endpoint ws e) (λ c. wild_has w ws e))
+    if_has IsEnd (bytes_eq w (codes "host")) (host_at (list_refuses list_part.Endpoint) ws) (wild_address w ws) (λ c. host_has (list_refuses list_part.Endpoint) ws e) (λ c. wild_has w ws e))
 
 endpoint_has : (ws : Words) → Each ws → Has IsEnd (endpoint_at ws)
 unfolding endpoint_at
-endpoint_has ws e = then_has (IsAllowed command.Endpoint) IsEnd (allowed_word command.Endpoint ws) _ (allowed_has command.Endpoint ws e) (λ w h. endpoint_by_has w.0 w.1 h.2)
+endpoint_has ws e = then_has (IsAllowed (list_refuses list_part.Endpoint)) IsEnd (allowed_word (list_refuses list_part.Endpoint) ws) _ (allowed_has (list_refuses list_part.Endpoint) ws e) (λ w h. endpoint_by_has w.0 w.1 h.2)
 
 -- ---- standard entries
 
@@ -121,7 +121,7 @@ standard_is : (n : ℕ) (permit : Bool) (ws : Words) → Each ws → Has (IsEntr
 unfolding standard_entry
 standard_is n permit ws e =
     then_has IsEnd (IsEntryAt false n) (standard_at ws) _ (standard_has ws e) (λ s h.
-    any_then (IsEntryAt false n) (ended command.Plain (after_log s.1)) _ (λ u.
+    any_then (IsEntryAt false n) (ended none_refused (after_log s.1)) _ (λ u.
     (refl, record { src = h.0; proto = refl; sport = refl; dst = refl; dport = refl; icmp = refl; flags = refl })))
 
 -- ---- names and numbers
@@ -163,7 +163,7 @@ IsProtoAt p = IsProto p.0 × Each p.1
 proto_has : (ws : Words) → Each ws → Has IsProtoAt (proto_at ws)
 unfolding proto_at
 proto_has ws e =
-    then_has (IsAllowed command.Protocol) IsProtoAt (allowed_word command.Protocol ws) _ (allowed_has command.Protocol ws e) (λ w h.
+    then_has (IsAllowed (list_refuses list_part.Protocol)) IsProtoAt (allowed_word (list_refuses list_part.Protocol) ws) _ (allowed_has (list_refuses list_part.Protocol) ws e) (λ w h.
     if_has IsProtoAt (bytes_eq w.0 (codes "ip")) (Ok (None, w.1)) _ (λ b. (tt, h.2)) (λ b.
     then_has (λ p. (1 ≤ p) × (p ≤ 255)) IsProtoAt (ok_or (proto_of w.0) (fault_of kind.BadWord w.0)) _ (some_has (λ p. (1 ≤ p) × (p ≤ 255)) (proto_of w.0) (fault_of kind.BadWord w.0) (proto_bounds w.0)) (λ p k. (k, h.2))))
 
@@ -326,7 +326,7 @@ AreFlagsAt m = IsFlagMask m.0.set m.0.clear × Each m.1
 signed_has : (ws : Words) → Each ws → Has AreFlagsAt (signed_at ws)
 unfolding signed_at
 signed_has ws e =
-    then_has (IsAllowed command.Trailing) AreFlagsAt (allowed_word command.Trailing ws) _ (allowed_has command.Trailing ws e) (λ w h.
+    then_has (IsAllowed (list_refuses list_part.Trailing)) AreFlagsAt (allowed_word (list_refuses list_part.Trailing) ws) _ (allowed_has (list_refuses list_part.Trailing) ws e) (λ w h.
     then_has IsSigned AreFlagsAt (ok_or (signed_of w.0) (fault_of kind.BadWord w.0)) _ (some_has IsSigned (signed_of w.0) (fault_of kind.BadWord w.0) (signed_some w.0)) (λ f k.
     (flags_more (leading_flags w.1) (add_flag no_flags f) (flag_more no_flags f (omega arith) (omega arith) k) (leading_signed w.1), each_drop (length (leading_flags w.1)) w.1 h.2)))
 
@@ -363,14 +363,14 @@ trailing_by_has p t w ws is e = if_has (IsTrailingAt p) (is_log w && not t.logge
 trailing_has : (p : Option ℕ) (t : Trailing) (ws : Words) → IsTrailing p t → Each ws → Has (IsTrailingAt p) (trailing_at p t ws)
 unfolding trailing_at
 trailing_has p t [] is e = (is, tt)
-trailing_has p t (x ∷ xs) is e = then_has (IsAllowed command.Trailing) (IsTrailingAt p) (allowed_word command.Trailing (x ∷ xs)) _ (allowed_has command.Trailing (x ∷ xs) e) (λ w h. trailing_by_has p t w.0 w.1 is h.2)
+trailing_has p t (x ∷ xs) is e = then_has (IsAllowed (list_refuses list_part.Trailing)) (IsTrailingAt p) (allowed_word (list_refuses list_part.Trailing) (x ∷ xs)) _ (allowed_has (list_refuses list_part.Trailing) (x ∷ xs) e) (λ w h. trailing_by_has p t w.0 w.1 is h.2)
 
 trailing_words_has : (p : Option ℕ) (ws : Words) → Each ws → Has (IsTrailing p) (trailing_words p ws)
 unfolding trailing_words
 trailing_words_has p ws e =
     then_has (IsTrailingAt p) (IsTrailing p) (trailing_at p no_trailing ws) _ (trailing_has p no_trailing ws (tt, tt) e) (λ a h.
     then_has (IsTrailingAt p) (IsTrailing p) (trailing_at p a.0 a.1) _ (trailing_has p a.0 a.1 h.0 h.1) (λ b k.
-    any_then (IsTrailing p) (ended command.Trailing b.1) _ (λ u. k.0)))
+    any_then (IsTrailing p) (ended (list_refuses list_part.Trailing) b.1) _ (λ u. k.0)))
 
 -- ---- extended entries
 

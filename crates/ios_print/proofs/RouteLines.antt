@@ -8,13 +8,14 @@ use Rattle.net_types.specs.declared.config.RouteExit.{RouteExit}
 use Rattle.net_types.specs.declared.config.RouteExit.TheVariants as exit
 use Rattle.net_types.specs.declared.config.Subnet.{Subnet}
 use Rattle.ios_words.specs.Words.{mask_of}
-use Rattle.ios_lines.specs.declared.words.Command.TheVariants as command
+use Rattle.ios_commands.specs.declared.refused.CommandPart.TheVariants as command_part
+use Rattle.ios_commands.specs.Refused.{command_refuses}
 use Rattle.ios_lines.specs.declared.effect.Action.TheVariants as action
 use Rattle.ios_lines.specs.declared.effect.Effect.TheVariants as effect
 use Rattle.ios_lines.specs.declared.effect.Section.{Section}
 use Rattle.ios_lines.specs.declared.effect.Section.TheVariants as section
 use Rattle.ios_lines.specs.declared.effect.WrittenRoute.{WrittenRoute}
-use Rattle.ios_lines.specs.Words.{Word, Words, is_denied, address_at, mask_at, allowed_word, ended}
+use Rattle.ios_lines.specs.Words.{Word, Words, address_at, mask_at, allowed_word, ended}
 use Rattle.ios_lines.proofs.Steps.{map_more}
 use Rattle.ios_commands.specs.Routes.{is_prefix, prefix_at, exit_at, option_at, option_by, distance_option, options_at, route_at, route_action}
 use Rattle.ios_commands.specs.Interfaces.{subnet_of}
@@ -34,7 +35,7 @@ prefix_done s ws h p =
     let q : is_prefix (subnet_of s.address s.length) ≡ true = ap is_prefix (same_subnet s) ∙ p in
     rw (other_word (address_word s.address) 118 (codes "rf") d refl, address_back s.address h, address_back (mask_of s.length) (mask_bound s.length s.in_range), mask_back s.length s.in_range, le-ltb s.length 0 (omega arith), q, same_subnet s) refl
 
-covered_tail : (w : Word) → Digital w → is_denied command.RouteTail w ≡ false
+covered_tail : (w : Word) → Digital w → command_refuses command_part.RouteTail w ≡ false
 covered_tail w d = rw (other_word w 112 (codes "ermanent") d refl, other_word w 116 (codes "rack") d refl, other_word w 109 (codes "ulticast") d refl, other_word w 100 (codes "hcp") d refl) refl
 
 exit_done : (x : RouteExit) (d : ℕ) → IsExit x → d ≤ 255 → exit_at (exit_words x ++ decimal d ∷ []) ≡ Ok (x, decimal d ∷ [])

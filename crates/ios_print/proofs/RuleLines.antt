@@ -5,12 +5,13 @@ use Rattle.net_types.specs.declared.config.Config.{Config}
 use Rattle.net_types.specs.declared.config.NatRule.{NatRule}
 use Rattle.net_types.specs.declared.config.NatKind.{NatKind}
 use Rattle.net_types.specs.declared.config.NatKind.TheVariants as nat
-use Rattle.ios_lines.specs.declared.words.Command.TheVariants as command
+use Rattle.ios_commands.specs.declared.refused.CommandPart.TheVariants as command_part
+use Rattle.ios_commands.specs.Refused.{command_refuses}
 use Rattle.ios_lines.specs.declared.effect.Action.TheVariants as action
 use Rattle.ios_lines.specs.declared.effect.Effect.TheVariants as effect
 use Rattle.ios_lines.specs.declared.effect.Section.{Section}
 use Rattle.ios_lines.specs.declared.effect.Section.TheVariants as section
-use Rattle.ios_lines.specs.Words.{Word, Words, is_denied, address_at, number_at, allowed_word}
+use Rattle.ios_lines.specs.Words.{Word, Words, address_at, number_at, allowed_word}
 use Rattle.ios_commands.specs.Translation.{rule_action, extendable_at, address_rule, port_rule, static_action}
 use Rattle.ios_config.specs.Effects.{Seen, command_action, global_command}
 use Rattle.ios_config.specs.Draft.{Parts, parts_after}
@@ -23,10 +24,10 @@ ruled : (rules : List NatRule) (r : NatRule) (l g : Word) → IsRule rules r →
 unfolding rule_action extendable_at
 ruled rules r l g is = rw (is.new_local, is.new_global) refl
 
-local_covered : (a : ℕ) → a < 4294967296 → is_denied command.NatLocal (address_word a) ≡ false
+local_covered : (a : ℕ) → a < 4294967296 → command_refuses command_part.NatLocal (address_word a) ≡ false
 local_covered a h = let d = digital_address a h in rw (other_word (address_word a) 110 (codes "etwork") d refl, other_word (address_word a) 101 (codes "sp") d refl) refl
 
-global_covered : (a : ℕ) → a < 4294967296 → is_denied command.NatGlobal (address_word a) ≡ false
+global_covered : (a : ℕ) → a < 4294967296 → command_refuses command_part.NatGlobal (address_word a) ≡ false
 global_covered a h = other_word (address_word a) 105 (codes "nterface") (digital_address a h) refl
 
 abbrev plain : ℕ → ℕ → NatRule

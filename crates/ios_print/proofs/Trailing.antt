@@ -11,8 +11,9 @@ use Rattle.net_types.specs.declared.config.FlagTest.TheVariants as flags
 use Rattle.net_types.specs.declared.config.PortTest.{PortTest}
 use Rattle.net_types.specs.declared.config.PortTest.TheVariants as ports
 use Rattle.ios_lines.specs.declared.fault.Fault.{Fault}
-use Rattle.ios_lines.specs.declared.words.Command.TheVariants as command
-use Rattle.ios_lines.specs.Words.{Word, Words, is_denied, allowed_word, ended}
+use Rattle.ios_lists.specs.declared.refused.ListPart.TheVariants as list_part
+use Rattle.ios_lists.specs.Refused.{list_refuses, refused_after_destination}
+use Rattle.ios_lines.specs.Words.{Word, Words, allowed_word, ended}
 use Rattle.ios_lists.specs.declared.entries.Trailing.{Trailing}
 use Rattle.ios_lists.specs.declared.entries.FlagMasks.{FlagMasks}
 use Rattle.ios_lists.specs.Entries.{is_log, trailing_at, trailing_words, signed_of, leading_flags, no_flags, add_flag, signed_at, any_flags, all_flags, port_test_at, has_ports}
@@ -22,7 +23,8 @@ use Rattle.ios_print.proofs.Digits.{digital_number, number_back, other_word, Dig
 use Rattle.ios_print.proofs.Names.{no_message}
 use Rattle.ios_print.proofs.EntryWords.{IsPast}
 
-trailing_covered : (w : Word) → Digital w → is_denied command.Trailing w ≡ false
+trailing_covered : (w : Word) → Digital w → list_refuses list_part.Trailing w ≡ false
+unfolding refused_after_destination
 trailing_covered w d = rw (other_word w 102 (codes "ragments") d refl, other_word w 100 (codes "scp") d refl, other_word w 112 (codes "recedence") d refl, other_word w 116 (codes "os") d refl, other_word w 116 (codes "tl") d refl, other_word w 111 (codes "ption") d refl, other_word w 116 (codes "ime-range") d refl, other_word w 114 (codes "eflect") d refl) refl
 
 no_log : (w : Word) → Digital w → is_log w ≡ false
@@ -32,13 +34,13 @@ abbrev pub told : IcmpTest → FlagTest → Bool → Trailing
 told i f t = record { logged = false; tested = t; icmp = i; flags = f }
 
 kind_read : (k : ℕ) → k ≤ 255 → trailing_words (Some 1) (decimal k ∷ []) ≡ Ok (told (icmp.Kind k) flags.Any true)
-unfolding trailing_words trailing_at allowed_word ended
+unfolding trailing_words trailing_at allowed_word ended refused_after_destination
 kind_read k h =
     let d = digital_number k (omega (arith, h)) in
     rw (trailing_covered (decimal k) d, no_log (decimal k) d, no_message k h, number_back 0 255 k (omega (arith, h)) (omega arith) h) refl
 
 exact_read : (k c : ℕ) → k ≤ 255 → c ≤ 255 → trailing_words (Some 1) (decimal k ∷ decimal c ∷ []) ≡ Ok (told (icmp.Exact k c) flags.Any true)
-unfolding trailing_words trailing_at allowed_word ended
+unfolding trailing_words trailing_at allowed_word ended refused_after_destination
 exact_read k c h j =
     let d = digital_number k (omega (arith, h)) in
     rw (trailing_covered (decimal k) d, no_log (decimal k) d, no_message k h, number_back 0 255 k (omega (arith, h)) (omega arith) h, number_back 0 255 c (omega (arith, j)) (omega arith) j) refl
@@ -50,7 +52,7 @@ abbrev AreSigned : Words → List (Bool × ℕ) → Type 0
 AreSigned [] [] = Unit {0}
 AreSigned [] (f ∷ fs) = ⊥
 AreSigned (w ∷ ws) [] = ⊥
-AreSigned (w ∷ ws) (f ∷ fs) = (signed_of w ≡ Some f) × (is_denied command.Trailing w ≡ false) × AreSigned ws fs
+AreSigned (w ∷ ws) (f ∷ fs) = (signed_of w ≡ Some f) × (list_refuses list_part.Trailing w ≡ false) × AreSigned ws fs
 
 signed_on : (ws : Words) (fs : List (Bool × ℕ)) (vs : Words) (gs : List (Bool × ℕ)) → AreSigned ws fs → AreSigned vs gs → AreSigned (ws ++ vs) (fs ++ gs)
 signed_on [] [] vs gs a b = b
@@ -65,7 +67,7 @@ abbrev flags_in : Bool → ℕ → List (ℕ × Word) → List (Bool × ℕ)
 flags_in b mask rows = flat_map (flag_value b mask) rows
 
 abbrev IsSigned : ℕ → Bool → ℕ × Word → Type 0
-IsSigned sign b f = (signed_of (sign ∷ f.1) ≡ Some (b, f.0)) × (is_denied command.Trailing (sign ∷ f.1) ≡ false)
+IsSigned sign b f = (signed_of (sign ∷ f.1) ≡ Some (b, f.0)) × (list_refuses list_part.Trailing (sign ∷ f.1) ≡ false)
 
 signed_rows : (sign : ℕ) (b : Bool) (mask : ℕ) (rows : List (ℕ × Word)) → AllByRecursion (IsSigned sign b) rows → AreSigned (flat_map (flag_word sign mask) rows) (flags_in b mask rows)
 signed_rows sign b mask [] a = tt
@@ -77,6 +79,7 @@ abbrev both_flags : ℕ → ℕ → List (Bool × ℕ)
 both_flags set clear = flags_in true set flag_names ++ flags_in false clear flag_names
 
 signed_words : (set clear : ℕ) → AreSigned (mask_words 43 set ++ mask_words 45 clear) (both_flags set clear)
+unfolding refused_after_destination
 signed_words set clear = signed_on (mask_words 43 set) (flags_in true set flag_names) (mask_words 45 clear) (flags_in false clear flag_names)
     (signed_rows 43 true set flag_names ((refl, refl), ((refl, refl), ((refl, refl), ((refl, refl), ((refl, refl), ((refl, refl), tt)))))))
     (signed_rows 45 false clear flag_names ((refl, refl), ((refl, refl), ((refl, refl), ((refl, refl), ((refl, refl), ((refl, refl), tt)))))))
@@ -88,7 +91,7 @@ leading_signed (w ∷ ws) [] a = absurd a
 leading_signed (w ∷ ws) (f ∷ fs) a = let rest = leading_signed ws fs a.2 in (rw a.0 (ap (λ xs. f ∷ xs) rest.0), rest.1)
 
 signed_read : (ws : Words) (fs : List (Bool × ℕ)) → AreSigned ws fs → 0 < length fs → signed_at ws ≡ Ok (fold add_flag no_flags fs, [])
-unfolding signed_at allowed_word
+unfolding signed_at allowed_word refused_after_destination
 signed_read [] [] a n = absurd (omega (arith, n))
 signed_read [] (f ∷ fs) a n = absurd a
 signed_read (w ∷ ws) [] a n = absurd a
@@ -175,11 +178,11 @@ masks_read : (set clear : ℕ) → IsFlagMask set clear → signed_at (mask_word
 masks_read set clear is = signed_read (mask_words 43 set ++ mask_words 45 clear) (both_flags set clear) (signed_words set clear) (some_flags set clear is) ∙ ap (λ m. Ok (m, [])) (masks_back set clear is.0 is.1)
 
 any_read : (set clear : ℕ) → IsFlagMask set clear → trailing_words (Some 6) (flag_words (flags.AnyOf set clear)) ≡ Ok (told icmp.Any (flags.AnyOf set clear) true)
-unfolding trailing_words trailing_at allowed_word ended any_flags
+unfolding trailing_words trailing_at allowed_word ended any_flags refused_after_destination
 any_read set clear is = rw (masks_read set clear is) refl
 
 all_read : (set clear : ℕ) → IsFlagMask set clear → trailing_words (Some 6) (flag_words (flags.AllOf set clear)) ≡ Ok (told icmp.Any (flags.AllOf set clear) true)
-unfolding trailing_words trailing_at allowed_word ended all_flags
+unfolding trailing_words trailing_at allowed_word ended all_flags refused_after_destination
 all_read set clear is = rw (masks_read set clear is) refl
 
 none_read : (p : Option ℕ) → trailing_words p [] ≡ Ok (told icmp.Any flags.Any false)

@@ -13,8 +13,9 @@ use Rattle.net_types.specs.declared.config.NatRule.{NatRule}
 use Rattle.net_types.specs.declared.config.NatKind.{NatKind}
 use Rattle.net_types.specs.declared.config.NatKind.TheVariants as nat
 use Rattle.ios_words.specs.Words.{address_of}
-use Rattle.ios_lines.specs.declared.words.Command.TheVariants as command
-use Rattle.ios_lines.specs.Words.{Word, Words, is_denied}
+use Rattle.ios_commands.specs.declared.refused.CommandPart.TheVariants as command_part
+use Rattle.ios_commands.specs.Refused.{command_refuses}
+use Rattle.ios_lines.specs.Words.{Word, Words}
 use Rattle.ios_lines.specs.Lists.{place_of}
 use Rattle.ios_commands.specs.Routes.{is_prefix}
 use Rattle.ios_commands.specs.Translation.{has_local, has_global, local_side, global_side}
@@ -51,7 +52,7 @@ pub record IsPort (name : Word) : Type 0 where
   pub word : IsWord name
   pub other : bytes_eq name (codes "Null0") ≡ false
   pub no_address : address_of name ≡ None
-  pub covered : is_denied command.RouteTail name ≡ false
+  pub covered : command_refuses command_part.RouteTail name ≡ false
 
 abbrev pub IsExit : RouteExit → Type 0
 IsExit exit.Null = Unit {0}

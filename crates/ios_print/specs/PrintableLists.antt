@@ -12,8 +12,9 @@ use Rattle.net_types.specs.declared.config.IcmpTest.TheVariants as icmp
 use Rattle.net_types.specs.declared.config.FlagTest.{FlagTest}
 use Rattle.net_types.specs.declared.config.FlagTest.TheVariants as flags
 use Rattle.ios_lines.specs.Words.{Words}
+use Rattle.ios_lines.specs.Books.{last_sequence}
 use Rattle.ios_lines.specs.Lists.{place_of}
-use Rattle.ios_lists.specs.Entries.{any_address, has_ports}
+use Rattle.ios_lists.specs.Entries.{any_address, ports_limit, has_ports}
 use Rattle.ios_lists.specs.ListCommands.{has_range}
 
 -- an address that is 0 under its wildcard
@@ -36,7 +37,7 @@ tests_ports (Some p) = has_ports p
 -- port tests are for TCP and UDP
 abbrev pub IsPortTest : Option ℕ → PortTest → Type 0
 IsPortTest p ports.Any = Unit {0}
-IsPortTest p (ports.Eq ns) = (tests_ports p ≡ true) × (1 ≤ length ns) × (length ns ≤ 10) × AllByRecursion IsPortNumber ns
+IsPortTest p (ports.Eq ns) = (tests_ports p ≡ true) × (1 ≤ length ns) × (length ns ≤ ports_limit) × AllByRecursion IsPortNumber ns
 IsPortTest p (ports.Neq n) = (tests_ports p ≡ true) × IsPortNumber n
 IsPortTest p (ports.Gt n) = (tests_ports p ≡ true) × IsPortNumber n
 IsPortTest p (ports.Lt n) = (tests_ports p ≡ true) × IsPortNumber n
@@ -82,7 +83,7 @@ IsEntry false e = IsStandard e
 -- entries by rising sequence
 abbrev pub AreEntries : Bool → ℕ → List Entry → Type 0
 AreEntries extended below [] = Unit {0}
-AreEntries extended below (e ∷ es) = (below < e.sequence) × (e.sequence ≤ 2147483647) × IsEntry extended e × AreEntries extended e.sequence es
+AreEntries extended below (e ∷ es) = (below < e.sequence) × (e.sequence ≤ last_sequence) × IsEntry extended e × AreEntries extended e.sequence es
 
 -- a list, behind others of these names
 pub record IsList (before : Words) (l : AccessList) : Type 0 where

@@ -99,6 +99,7 @@ udp_ports =
     ∷ (codes "non500-isakmp", 4500)
     ∷ []
 
+-- the names of a protocol's ports: of TCP and UDP alone (IOS: access-list, extended)
 abbrev pub ports_of : ℕ → List (List ℕ × ℕ)
 ports_of proto = if proto == 6 then tcp_ports else (if proto == 17 then udp_ports else [])
 
@@ -124,6 +125,7 @@ messages =
     ∷ (codes "parameter-problem", (12, None))
     ∷ []
 
+-- the message of a name (IOS: access-list, extended, ICMP)
 abbrev pub icmp_of : List ℕ → Option (ℕ × Option ℕ)
 icmp_of word = value_of messages word
 
@@ -138,5 +140,6 @@ tcp_flags =
     ∷ (codes "urg", 32)
     ∷ []
 
+-- the flag of a name (IOS: access-list, extended, TCP)
 abbrev pub flag_of : List ℕ → Option ℕ
 flag_of word = value_of tcp_flags word

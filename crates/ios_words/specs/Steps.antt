@@ -8,9 +8,11 @@ use Rattle.ios_words.specs.Words.{is_numeral, octet_of, is_dot}
 abbrev pub capped_value : List ℕ → ℕ
 capped_value word = min (digits_value 10 word) 4294967296
 
+-- digits alone, or none, as that number
 abbrev pub capped_of : List ℕ → Option ℕ
 capped_of word = if all_ascii_digits word then Some (capped_value word) else None
 
+-- digits, at least one, as that number
 abbrev pub capped_number : List ℕ → Option ℕ
 capped_number word = if is_numeral word then Some (capped_value word) else None
 

@@ -8,6 +8,7 @@ use Rattle.std.specs.Str.Parse.{digits_value}
 abbrev pub is_numeral : List ℕ → Bool
 is_numeral word = nat_lt 0 (length word) && all_ascii_digits word
 
+-- from low to high, both included
 abbrev pub is_within : ℕ → ℕ → ℕ → Bool
 is_within low high n = nat_le low n && nat_le n high
 
@@ -19,6 +20,7 @@ number_of low high word = if is_numeral word && is_within low high (digits_value
 abbrev pub octet_of : List ℕ → Option ℕ
 octet_of part = if nat_lt 3 (length part) then None else number_of 0 255 part
 
+-- `.`
 abbrev pub is_dot : ℕ → Bool
 is_dot b = b == 46
 
@@ -31,10 +33,11 @@ of_four _ = None
 abbrev pub address_of : List ℕ → Option ℕ
 address_of word = of_four (map octet_of (slice_split is_dot word))
 
--- the mask of 32 bits with ones in the first n places
+-- the mask of 32 bits whose first n bits are ones
 abbrev pub mask_of : ℕ → ℕ
 mask_of n = 2 ^ 32 - 2 ^ (32 - n)
 
+-- a mask is that of this length
 abbrev pub is_mask : ℕ → ℕ → Bool
 is_mask mask n = mask_of n == mask
 

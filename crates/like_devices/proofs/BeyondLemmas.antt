@@ -11,15 +11,14 @@ use Rattle.net_types.specs.declared.config.RouteExit.{RouteExit}
 use Rattle.net_types.specs.declared.config.RouteExit.TheVariants as exit
 use Rattle.net_types.specs.declared.network.Hop.{Hop}
 use Rattle.net_types.specs.declared.network.Hop.TheVariants as hop
-use Rattle.net_types.specs.declared.network.Move.{Move}
 use Rattle.net_types.specs.declared.network.Move.TheVariants as move
 use Rattle.net_types.specs.declared.network.NetDevice.{NetDevice}
 use Rattle.net_types.specs.declared.network.Place.{Place}
 use Rattle.net_types.specs.declared.network.Rib.{Rib}
 use Rattle.net_types.specs.AccessLists.{verdict, passes}
 use Rattle.net_types.specs.Moves.{send, going_out, leave_with, leave_if_any, move_by, owner, owns, local_or_forward, moves_in, coming_in, is_dropped, list_named}
-use Rattle.net_types.specs.Routes.{same_text, hops, rib_of, next_is_own, is_usable, is_anchored, leads_into, stands_on, valid_within, valid, is_unbeaten, installed, all_routes}
-use Rattle.net_types.specs.World.{World, Port, port_in, port_numbered, port_named, port_at, segment_of}
+use Rattle.net_types.specs.Routes.{same_text, hops, rib_of, next_is_own, is_anchored, leads_into, stands_on, valid_within, is_unbeaten, all_routes}
+use Rattle.net_types.specs.World.{World, Seat, seat_in, seat_numbered, seat_named, seat_at, segment_of}
 use Rattle.link_sends.specs.Sending.{SendAlike}
 use Rattle.device_equality.specs.BeyondInput.{with_lists, AreSameBeyondInput}
 use Rattle.like_devices.specs.Like.{IsLikeBeyondInput}
@@ -66,7 +65,7 @@ module _ (c : Config) (ls : List AccessList) where
 
 -- ---- the same interface of both devices
 module _ (d : NetDevice) (ls : List AccessList) where
-  relisted : Port → Port
+  relisted : Seat → Seat
   relisted a = record { place = a.place; device = with_lists a.device ls; interface = a.interface }
 
   with_number : (f : Option Interface) (m : Option ℕ)
@@ -77,18 +76,18 @@ module _ (d : NetDevice) (ls : List AccessList) where
   with_number (Some g) None = refl
   with_number (Some g) (Some n) = refl
 
-  same_in : (i : ℕ) → port_in (with_lists d ls) i ≡ option_map relisted (port_in d i)
+  same_in : (i : ℕ) → seat_in (with_lists d ls) i ≡ option_map relisted (seat_in d i)
   same_in i = with_number (slice_get d.config.interfaces i) (slice_get d.numbers i)
 
-  at_position : (o : Option ℕ) → option_and_then (port_in (with_lists d ls)) o ≡ option_map relisted (option_and_then (port_in d) o)
+  at_position : (o : Option ℕ) → option_and_then (seat_in (with_lists d ls)) o ≡ option_map relisted (option_and_then (seat_in d) o)
   at_position None = refl
   at_position (Some i) = same_in i
 
 module _ (w v : World) (d : NetDevice) (ls : List AccessList) (alike : (n : ℕ) → Contains d.numbers n → SendAlike w v (record { device = d.name; interface = n })) (outputs : (i : Interface) → Contains d.config.interfaces i → list_named d.config i.output ≡ list_named (with_lists d ls).config i.output) where
-  one : Place → Interface → Port
+  one : Place → Interface → Seat
   one p g = record { place = p; device = d; interface = g }
 
-  two : Place → Interface → Port
+  two : Place → Interface → Seat
   two p g = record { place = p; device = with_lists d ls; interface = g }
 
   -- out of an interface of the device
@@ -99,23 +98,23 @@ module _ (w v : World) (d : NetDevice) (ls : List AccessList) (alike : (n : ℕ)
       ∙ ap (λ m. cond (passes (verdict (list_named (with_lists d ls).config f.output) h)) m move.Lost) (subst (SendAlike w v) (sym at.place) (alike at.number at.among) h a)
 
   -- the interface that was found at a position
-  record IsSeated (out : Port) : Type 0 where
+  record IsSeated (out : Seat) : Type 0 where
     device : out.device ≡ d
     place : IsPlaceOf d out.place
     there : Contains d.config.interfaces out.interface
 
-  seated_by : (i : ℕ) (f : Option Interface) (m : Option ℕ) (out : Port) → slice_get d.config.interfaces i ≡ f → Some out ≡ option_and_then (λ g. option_map (λ n. record { place = record { device = d.name; interface = n }; device = d; interface = g }) m) f → Contains d.config.interfaces out.interface
+  seated_by : (i : ℕ) (f : Option Interface) (m : Option ℕ) (out : Seat) → slice_get d.config.interfaces i ≡ f → Some out ≡ option_and_then (λ g. option_map (λ n. record { place = record { device = d.name; interface = n }; device = d; interface = g }) m) f → Contains d.config.interfaces out.interface
   seated_by i None m out s e = absurd cc
   seated_by i (Some g) None out s e = absurd cc
-  seated_by i (Some g) (Some n) out s e = subst (λ (x : Port). Contains d.config.interfaces x.interface) (let q : record { place = record { device = d.name; interface = n }; device = d; interface = g } ≡ out = cc in q) (among d.config.interfaces i g s)
+  seated_by i (Some g) (Some n) out s e = subst (λ (x : Seat). Contains d.config.interfaces x.interface) (let q : record { place = record { device = d.name; interface = n }; device = d; interface = g } ≡ out = cc in q) (among d.config.interfaces i g s)
 
-  seated : (o : Option ℕ) (out : Port) → Some out ≡ option_and_then (port_in d) o → IsSeated out
+  seated : (o : Option ℕ) (out : Seat) → Some out ≡ option_and_then (seat_in d) o → IsSeated out
   seated None out e = absurd cc
   seated (Some i) out e =
       let p = placed_in d (Some i) out e in
       record { device = p.0; place = p.1; there = seated_by i (slice_get d.config.interfaces i) (slice_get d.numbers i) out refl e }
 
-  leaves_any : (p : Place) (g : Interface) (h : Header) (a : ℕ) (o : Option Port) → ((out : Port) → Some out ≡ o → IsSeated out) → leave_if_any w (one p g) h a o ≡ leave_if_any v (two p g) h a (option_map (relisted d ls) o)
+  leaves_any : (p : Place) (g : Interface) (h : Header) (a : ℕ) (o : Option Seat) → ((out : Seat) → Some out ≡ o → IsSeated out) → leave_if_any w (one p g) h a o ≡ leave_if_any v (two p g) h a (option_map (relisted d ls) o)
   unfolding one two relisted
   leaves_any p g h a None s = refl
   leaves_any p g h a (Some out) s =
@@ -130,9 +129,9 @@ module _ (w v : World) (d : NetDevice) (ls : List AccessList) (alike : (n : ℕ)
   by p g h hop.Discard = refl
   by p g h (hop.Out name a) =
       let o = position (λ i. same_text i.name name) d.config.interfaces in
-      leaves_any p g h a (port_named d name) (λ out s. seated o out s) ∙ ap (leave_if_any v (two p g) h a) (sym (at_position d ls o))
+      leaves_any p g h a (seat_named d name) (λ out s. seated o out s) ∙ ap (leave_if_any v (two p g) h a) (sym (at_position d ls o))
 
-  forwards : (p : Place) (g : Interface) (h : Header) (o : Option Port) → local_or_forward w (one p g) h o ≡ local_or_forward v (two p g) h (option_map (relisted d ls) o)
+  forwards : (p : Place) (g : Interface) (h : Header) (o : Option Seat) → local_or_forward w (one p g) h o ≡ local_or_forward v (two p g) h (option_map (relisted d ls) o)
   unfolding one two relisted config_of
   forwards p g h None =
       same_map (move_by w (one p g) h) (move_by v (two p g) h) (hops (rib_of d.config) h.dst) (by p g h)
@@ -146,7 +145,7 @@ module _ (w v : World) (d : NetDevice) (ls : List AccessList) (alike : (n : ℕ)
       ap (cond (is_dropped d.config h.dst) (move.Drop ∷ [])) (forwards p g h (owner (one p g) h.dst) ∙ ap (local_or_forward v (two p g) h) (sym (at_position d ls o)))
 
   -- the same interface of both devices
-  beyond : (i : ℕ) (a b : Port) → Some a ≡ port_numbered d i → Some b ≡ port_numbered (with_lists d ls) i → (h : Header) → moves_in w a (coming_in a h) ≡ moves_in v b (coming_in b h)
+  beyond : (i : ℕ) (a b : Seat) → Some a ≡ seat_numbered d i → Some b ≡ seat_numbered (with_lists d ls) i → (h : Header) → moves_in w a (coming_in a h) ≡ moves_in v b (coming_in b h)
   unfolding one two relisted
   beyond i a b s t h =
       let o = position (λ n. n == i) d.numbers in
@@ -160,9 +159,9 @@ pub like_beyond : (w v : World) (name : ℕ) (d e : NetDevice) → Some d ≡ fi
 like_beyond w v name d e x y s alike =
     record {
       same = λ p q a b at bt h.
-          let i : port_at w p ≡ port_numbered d p.interface = ap (λ n. option_and_then (λ z. port_numbered z p.interface) (find (λ z. z.name == n) w.network.devices)) q ∙ ap (option_and_then (λ z. port_numbered z p.interface)) (sym x) in
-          let j : port_at v p ≡ port_numbered e p.interface = ap (λ n. option_and_then (λ z. port_numbered z p.interface) (find (λ z. z.name == n) v.network.devices)) q ∙ ap (option_and_then (λ z. port_numbered z p.interface)) (sym y) in
-          beyond w v d e.config.lists alike (λ f k. s.outputs f k ∙ ap (λ (z : NetDevice). list_named z.config f.output) s.rest) p.interface a b (at ∙ i) (bt ∙ (j ∙ ap (λ (z : NetDevice). port_numbered z p.interface) s.rest)) h;
+          let i : seat_at w p ≡ seat_numbered d p.interface = ap (λ n. option_and_then (λ z. seat_numbered z p.interface) (find (λ z. z.name == n) w.network.devices)) q ∙ ap (option_and_then (λ z. seat_numbered z p.interface)) (sym x) in
+          let j : seat_at v p ≡ seat_numbered e p.interface = ap (λ n. option_and_then (λ z. seat_numbered z p.interface) (find (λ z. z.name == n) v.network.devices)) q ∙ ap (option_and_then (λ z. seat_numbered z p.interface)) (sym y) in
+          beyond w v d e.config.lists alike (λ f k. s.outputs f k ∙ ap (λ (z : NetDevice). list_named z.config f.output) s.rest) p.interface a b (at ∙ i) (bt ∙ (j ∙ ap (λ (z : NetDevice). seat_numbered z p.interface) s.rest)) h;
     }
 
 -- one more name, unless it is there

@@ -1,6 +1,6 @@
 -- A device that is equal in two worlds, and sends alike, does the same in both.
-use Rattle.std.proofs.Common.{ℕ, ◌≡◌, ◌<◌, ◌+◌, inl, inr, take, get_or, Bool, true, false, cond, List, [], ◌∷◌, map, length, slice_get, Option, Some, None, refl, ap, sym, ◌∙◌, subst, find, position}
-use Rattle.std.specs.Prelude.{Contains, ◌==◌, ◌&&◌, option_and_then, option_map}
+use Rattle.std.proofs.Common.{ℕ, ◌≡◌, ◌<◌, ◌+◌, inl, inr, take, get_or, cond, List, [], ◌∷◌, map, length, slice_get, Option, Some, None, refl, ap, sym, ◌∙◌, subst, find, position}
+use Rattle.std.specs.Prelude.{Contains, ◌==◌, option_and_then, option_map}
 use Rattle.std.proofs.lemmas.List.Elements.{Contains-get_or, Contains-push_cases}
 use Rattle.std.proofs.lemmas.List.{take_more}
 use Rattle.std.proofs.lemmas.Option.{get_or_from_slice_get, slice_get_within}
@@ -8,13 +8,12 @@ use Rattle.hdr_bits.specs.declared.header.Header.{Header}
 use Rattle.net_types.specs.declared.config.Interface.{Interface}
 use Rattle.net_types.specs.declared.network.Hop.{Hop}
 use Rattle.net_types.specs.declared.network.Hop.TheVariants as hop
-use Rattle.net_types.specs.declared.network.Move.{Move}
 use Rattle.net_types.specs.declared.network.Move.TheVariants as move
 use Rattle.net_types.specs.declared.network.NetDevice.{NetDevice}
 use Rattle.net_types.specs.declared.network.Place.{Place}
-use Rattle.net_types.specs.Moves.{send, going_out, leave_with, leave_if_any, move_by, owner, local_or_forward, moves_in, lets_in, coming_in, moves_at, moves, is_dropped, passes_list}
+use Rattle.net_types.specs.Moves.{going_out, leave_with, leave_if_any, move_by, owner, local_or_forward, moves_in, lets_in, coming_in, moves_at, is_dropped, passes_list}
 use Rattle.net_types.specs.Routes.{same_text, hops, rib_of}
-use Rattle.net_types.specs.World.{World, Port, port_in, port_numbered, port_named, port_at, segment_of}
+use Rattle.net_types.specs.World.{World, Seat, seat_in, seat_numbered, seat_named, seat_at}
 use Rattle.link_sends.specs.Sending.{SendAlike}
 use Rattle.like_devices.specs.Like.{IsLike}
 
@@ -27,12 +26,12 @@ pub record IsPlaceOf (d : NetDevice) (p : Place) : Type 0 where
   pub among : Contains d.numbers number
   pub place : p ≡ record { device = d.name; interface = number }
 
-placed : (d : NetDevice) (i : ℕ) (f : Option Interface) (m : Option ℕ) (out : Port) → slice_get d.numbers i ≡ m → Some out ≡ option_and_then (λ g. option_map (λ n. record { place = record { device = d.name; interface = n }; device = d; interface = g }) m) f → (out.device ≡ d) × IsPlaceOf d out.place
+placed : (d : NetDevice) (i : ℕ) (f : Option Interface) (m : Option ℕ) (out : Seat) → slice_get d.numbers i ≡ m → Some out ≡ option_and_then (λ g. option_map (λ n. record { place = record { device = d.name; interface = n }; device = d; interface = g }) m) f → (out.device ≡ d) × IsPlaceOf d out.place
 placed d i None m out s e = absurd cc
 placed d i (Some g) None out s e = absurd cc
 placed d i (Some g) (Some n) out s e = (cc, record { number = n; among = among d.numbers i n s; place = cc })
 
-pub placed_in : (d : NetDevice) (q : Option ℕ) (out : Port) → Some out ≡ option_and_then (port_in d) q → (out.device ≡ d) × IsPlaceOf d out.place
+pub placed_in : (d : NetDevice) (q : Option ℕ) (out : Seat) → Some out ≡ option_and_then (seat_in d) q → (out.device ≡ d) × IsPlaceOf d out.place
 placed_in d None out e = absurd cc
 placed_in d (Some i) out e = placed d i (slice_get d.config.interfaces i) (slice_get d.numbers i) out refl e
 
@@ -41,40 +40,40 @@ same_map f g [] e = refl
 same_map f g (x ∷ xs) e = ap (λ y. y ∷ map f xs) (e x) ∙ ap (λ ys. g x ∷ ys) (same_map f g xs e)
 
 module _ (w v : World) (d : NetDevice) (alike : (n : ℕ) → Contains d.numbers n → SendAlike w v (record { device = d.name; interface = n })) where
-  sends : (out : Port) → IsPlaceOf d out.place → SendAlike w v out.place
+  sends : (out : Seat) → IsPlaceOf d out.place → SendAlike w v out.place
   sends out p = subst (SendAlike w v) (sym p.place) (alike p.number p.among)
 
-  leaves_with : (port out : Port) (g : Header) (a : ℕ) → IsPlaceOf d out.place → leave_with w port g a out ≡ leave_with v port g a out
-  leaves_with port out g a p = ap (λ m. cond (passes_list port.device.config out.interface.output g) m move.Lost) (sends out p g a)
+  leaves_with : (seat out : Seat) (g : Header) (a : ℕ) → IsPlaceOf d out.place → leave_with w seat g a out ≡ leave_with v seat g a out
+  leaves_with seat out g a p = ap (λ m. cond (passes_list seat.device.config out.interface.output g) m move.Lost) (sends out p g a)
 
-  leaves : (port : Port) (g : Header) (a : ℕ) (o : Option Port) → ((out : Port) → Some out ≡ o → IsPlaceOf d out.place) → leave_if_any w port g a o ≡ leave_if_any v port g a o
-  leaves port g a None p = refl
-  leaves port g a (Some out) p = leaves_with port out (going_out port out g) a (p out refl)
+  leaves : (seat : Seat) (g : Header) (a : ℕ) (o : Option Seat) → ((out : Seat) → Some out ≡ o → IsPlaceOf d out.place) → leave_if_any w seat g a o ≡ leave_if_any v seat g a o
+  leaves seat g a None p = refl
+  leaves seat g a (Some out) p = leaves_with seat out (going_out seat out g) a (p out refl)
 
-  by : (port : Port) (g : Header) → port.device ≡ d → (x : Hop) → move_by w port g x ≡ move_by v port g x
-  by port g e hop.Discard = refl
-  by port g e (hop.Out name a) =
-      leaves port g a (port_named port.device name) (λ out s. (placed_in d (position (λ i. same_text i.name name) d.config.interfaces) out (subst (λ x. Some out ≡ port_named x name) e s)).1)
+  by : (seat : Seat) (g : Header) → seat.device ≡ d → (x : Hop) → move_by w seat g x ≡ move_by v seat g x
+  by seat g e hop.Discard = refl
+  by seat g e (hop.Out name a) =
+      leaves seat g a (seat_named seat.device name) (λ out s. (placed_in d (position (λ i. same_text i.name name) d.config.interfaces) out (subst (λ x. Some out ≡ seat_named x name) e s)).1)
 
-  forwards : (port : Port) (g : Header) → port.device ≡ d → (o : Option Port) → local_or_forward w port g o ≡ local_or_forward v port g o
-  forwards port g e None = same_map (move_by w port g) (move_by v port g) (hops (rib_of port.device.config) g.dst) (by port g e)
-  forwards port g e (Some own) = refl
+  forwards : (seat : Seat) (g : Header) → seat.device ≡ d → (o : Option Seat) → local_or_forward w seat g o ≡ local_or_forward v seat g o
+  forwards seat g e None = same_map (move_by w seat g) (move_by v seat g) (hops (rib_of seat.device.config) g.dst) (by seat g e)
+  forwards seat g e (Some own) = refl
 
-  inside : (port : Port) (g : Header) → port.device ≡ d → moves_in w port g ≡ moves_in v port g
-  inside port g e = ap (λ ms. cond (is_dropped port.device.config g.dst) (move.Drop ∷ []) ms) (forwards port g e (owner port g.dst))
+  inside : (seat : Seat) (g : Header) → seat.device ≡ d → moves_in w seat g ≡ moves_in v seat g
+  inside seat g e = ap (λ ms. cond (is_dropped seat.device.config g.dst) (move.Drop ∷ []) ms) (forwards seat g e (owner seat g.dst))
 
-  at : (o : Option Port) (h : Header) → ((port : Port) → Some port ≡ o → port.device ≡ d) → moves_at w o h ≡ moves_at v o h
+  at : (o : Option Seat) (h : Header) → ((seat : Seat) → Some seat ≡ o → seat.device ≡ d) → moves_at w o h ≡ moves_at v o h
   at None h p = refl
-  at (Some port) h p = ap (λ ms. cond (lets_in port h) ms (move.Drop ∷ [])) (inside port (coming_in port h) (p port refl))
+  at (Some seat) h p = ap (λ ms. cond (lets_in seat h) ms (move.Drop ∷ [])) (inside seat (coming_in seat h) (p seat refl))
 
-  numbered : (i : ℕ) (h : Header) → moves_at w (port_numbered d i) h ≡ moves_at v (port_numbered d i) h
-  numbered i h = at (port_numbered d i) h (λ port s. (placed_in d (position (λ n. n == i) d.numbers) port s).0)
+  numbered : (i : ℕ) (h : Header) → moves_at w (seat_numbered d i) h ≡ moves_at v (seat_numbered d i) h
+  numbered i h = at (seat_numbered d i) h (λ seat s. (placed_in d (position (λ n. n == i) d.numbers) seat s).0)
 
 pub like : (w v : World) (name : ℕ) (d e : NetDevice) → Some d ≡ find (λ x. x.name == name) w.network.devices → Some e ≡ find (λ x. x.name == name) v.network.devices → d ≡ e → ((n : ℕ) → Contains d.numbers n → SendAlike w v (record { device = d.name; interface = n })) → IsLike w v name
 like w v name d e a b s alike p q h =
-    let x : port_at w p ≡ port_numbered d p.interface = ap (λ n. option_and_then (λ y. port_numbered y p.interface) (find (λ z. z.name == n) w.network.devices)) q ∙ ap (option_and_then (λ y. port_numbered y p.interface)) (sym a) in
-    let y : port_at v p ≡ port_numbered e p.interface = ap (λ n. option_and_then (λ z. port_numbered z p.interface) (find (λ z. z.name == n) v.network.devices)) q ∙ ap (option_and_then (λ z. port_numbered z p.interface)) (sym b) in
-    ap (λ o. moves_at w o h) x ∙ (numbered w v d alike p.interface h ∙ ap (λ o. moves_at v o h) (sym (y ∙ ap (λ z. port_numbered z p.interface) (sym s))))
+    let x : seat_at w p ≡ seat_numbered d p.interface = ap (λ n. option_and_then (λ y. seat_numbered y p.interface) (find (λ z. z.name == n) w.network.devices)) q ∙ ap (option_and_then (λ y. seat_numbered y p.interface)) (sym a) in
+    let y : seat_at v p ≡ seat_numbered e p.interface = ap (λ n. option_and_then (λ z. seat_numbered z p.interface) (find (λ z. z.name == n) v.network.devices)) q ∙ ap (option_and_then (λ z. seat_numbered z p.interface)) (sym b) in
+    ap (λ o. moves_at w o h) x ∙ (numbered w v d alike p.interface h ∙ ap (λ o. moves_at v o h) (sym (y ∙ ap (λ z. seat_numbered z p.interface) (sym s))))
 
 -- one more number of the list
 pub alike_more : (w v : World) (device : ℕ) (xs : List ℕ) (i d : ℕ) → i < length xs → ((n : ℕ) → Contains (take i xs) n → SendAlike w v (record { device = device; interface = n })) → SendAlike w v (record { device = device; interface = get_or xs i d }) → (n : ℕ) → Contains (take (i + 1) xs) n → SendAlike w v (record { device = device; interface = n })

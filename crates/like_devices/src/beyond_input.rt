@@ -1,5 +1,5 @@
 ghost use Rattle.std.specs.Prelude.{◌≡◌, true, All, IfOk};
-ghost use Rattle.plain_rules.specs.Borrowed.{world_of};
+ghost use Rattle.net_view.specs.Borrowed.{world_of};
 ghost use Rattle.like_devices.specs.Like.{IsLikeBeyondInput};
 
 use crate::like::{device_named, send_alike};
@@ -7,7 +7,7 @@ use device_equality::same_beyond_input;
 use indexmap::IndexSet;
 use link_sends::Wiring;
 use net_types::NoMemory;
-use plain_rules::WorldRef;
+use net_view::WorldRef;
 use std::alloc::Global;
 
 /// The names of devices that do the same in both worlds with whatever their input lists let in: such as differ in these

@@ -1,6 +1,6 @@
-ghost use Rattle.std.specs.Prelude.{◌≡◌, ◌==◌, ℕ, true, All, Contains, IfOk, find, slice_get};
+ghost use Rattle.std.specs.Prelude.{◌≡◌, ◌==◌, ℕ, true, All, Contains, IfOk, find};
 ghost use Rattle.std.specs.Option.{option_copied};
-ghost use Rattle.plain_rules.specs.Borrowed.{world_of};
+ghost use Rattle.net_view.specs.Borrowed.{world_of};
 ghost use Rattle.link_sends.specs.Sending.{SendAlike};
 ghost use Rattle.like_devices.specs.Like.{IsLike};
 
@@ -8,7 +8,7 @@ use device_equality::same_device;
 use indexmap::IndexSet;
 use link_sends::Wiring;
 use net_types::{NetDevice, NoMemory, Place};
-use plain_rules::WorldRef;
+use net_view::{WorldRef, device_at};
 use std::alloc::Global;
 
 /// The names of devices that do the same in both worlds with whatever arrives: such as are equal in both and send alike.
@@ -65,12 +65,6 @@ pub(crate) fn device_named<'a>(
         return None;
     };
     device_at(devices, position)
-}
-
-fn device_at(devices: &[NetDevice], position: usize) -> Option<&NetDevice>
-    ensures { option_copied result ≡ slice_get devices.now position }
-{
-    devices.get(position)
 }
 
 // Whether the device's interfaces with these numbers are known to send alike in both worlds.

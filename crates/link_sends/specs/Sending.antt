@@ -1,9 +1,9 @@
 -- What becomes of packets that are sent out of an interface, for a whole cube of headers.
-use Rattle.std.specs.Prelude.{ℕ, ◌≡◌, ◌<◌}
+use Rattle.std.specs.Prelude.{ℕ, ◌≡◌}
 use Rattle.hdr_bits.specs.declared.header.Header.{Header}
 use Rattle.hdr_bits.specs.declared.cube.Cube.{Cube}
-use Rattle.hdr_bits.specs.HeaderBits.{number, IsHeader}
-use Rattle.hdr_bits.specs.CubeBits.{IsIn, IsStar}
+use Rattle.cube_alg.specs.declared.on_cube.OnCube.{OnCube}
+use Rattle.cube_alg.specs.OnCubes.{OfOnCube}
 use Rattle.net_types.specs.declared.network.Move.{Move}
 use Rattle.net_types.specs.declared.network.Move.TheVariants as move
 use Rattle.net_types.specs.declared.network.Place.{Place}
@@ -13,8 +13,6 @@ use Rattle.link_sends.specs.declared.sent.Next.{Next}
 use Rattle.link_sends.specs.declared.sent.Next.TheVariants.{Destination, Address}
 use Rattle.link_sends.specs.declared.sent.Sent.{Sent}
 use Rattle.link_sends.specs.declared.sent.Sent.TheVariants.{Exit, Go, Lost}
-use Rattle.link_sends.specs.declared.sent.SentOn.{SentOn}
-use Rattle.link_sends.specs.declared.sent.SentOn.TheVariants.{Same, Divides}
 
 -- the address that is looked for on the segment
 abbrev pub next_address : Next → Header → ℕ
@@ -35,7 +33,6 @@ IsSent w e next h s = send w e (next_address next h) h (segment_of w e) ≡ sent
 abbrev pub SendAlike : World → World → Place → Type 0
 SendAlike w v e = (h : Header) (a : ℕ) → send w e a h (segment_of w e) ≡ send v e a h (segment_of v e)
 
--- the same becomes of all headers of the cube, or they may differ by a bit that is free in it
-abbrev pub OfSentOn : World → Place → Next → Cube → SentOn → Type 0
-OfSentOn w e next c (Same s) = (h : Header) → IsHeader h → IsIn c (number h) → IsSent w e next h s
-OfSentOn w e next c (Divides k) = (k < 112) × IsStar c k
+-- what becomes of packets with headers of the cube
+abbrev pub OfSentOn : World → Place → Next → Cube → OnCube Sent → Type 0
+OfSentOn w e next c result = OfOnCube (λ sent h. IsSent w e next h sent) c result

@@ -10,9 +10,8 @@ ghost use Rattle.link_sends.specs.FirstPlaces.{other_than};
 
 use crate::Next;
 use crate::first_two::{FirstTwo, other_than};
-use crate::receiver::Receiver;
-use cube_alg::{Piece, Stamp};
-use cube_diagram::{Diagrams, Part};
+use cube_alg::{OnCube, Piece, Stamp};
+use cube_diagram::Diagrams;
 use hdr_bits::Cube;
 use indexmap::IndexMap;
 use net_types::Place;
@@ -26,7 +25,7 @@ pub(crate) struct Holders {
     pub function: u32,
 }
 
-ghost use Rattle.link_sends.specs.Receivers.{TellsHeld, OfReceiver};
+ghost use Rattle.link_sends.specs.Receivers.{TellsHeld, OfNext};
 
 impl Holders {
     /// These ends, with their function in the table.
@@ -51,18 +50,18 @@ impl Holders {
         e: Place,
         next: Next,
         cube: &Cube,
-    ) -> Receiver
+    ) -> OnCube<Option<Place>>
         requires { TellsHeld diagrams.now self.now.function (get nat_eq self.now.ends) }
-        ensures { OfReceiver (λ a. other_than e (get nat_eq self.now.ends a)) next cube.now result }
+        ensures { OfNext (λ a. other_than e (get nat_eq self.now.ends a)) next cube.now result }
     {
         match next {
-            Next::Address { address } => Receiver::Same {
-                end: self.end_with(e, address),
+            Next::Address { address } => OnCube::All {
+                answer: self.end_with(e, address),
             },
             Next::Destination => match diagrams.divide(self.function, cube) {
-                Part::Divided { place } => Receiver::Divides { place },
-                Part::Whole { value } => Receiver::Same {
-                    end: self.end_with_any(e, value),
+                OnCube::Divides { bit } => OnCube::Divides { bit },
+                OnCube::All { answer } => OnCube::All {
+                    answer: self.end_with_any(e, answer),
                 },
             },
         }

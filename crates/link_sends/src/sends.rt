@@ -1,14 +1,14 @@
 ghost use Rattle.std.specs.Prelude.{◌≡◌, ℕ, nat_eq, None, IsTrue};
 ghost use Rattle.std.specs.Option.{option_copied};
 ghost use Rattle.indexmap.specs.IndexMap.{get};
-ghost use Rattle.link_sends.specs.Receivers.{TellsHeld};
-ghost use Rattle.link_sends.specs.Sends.{sent_p2p, sent_lan, holder_for, sent_over, sent_from, HasFunctions, OfSends};
+ghost use Rattle.link_sends.specs.Receivers.{TellsHeld, OfNext};
+ghost use Rattle.link_sends.specs.Sends.{sent_p2p, sent_lan, holder_for, sent_over, sent_from, HasFunctions};
 
 use crate::first_two::other_than;
 use crate::holders::Holders;
-use crate::receiver::Receiver;
 use crate::wire::Wire;
-use crate::{Next, Sent, SentOn};
+use crate::{Next, Sent};
+use cube_alg::OnCube;
 use cube_diagram::Diagrams;
 use hdr_bits::Cube;
 use net_types::Place;
@@ -20,13 +20,13 @@ pub(crate) fn send_over(
     e: Place,
     next: Next,
     cube: &Cube,
-) -> SentOn
+) -> OnCube<Sent>
     requires { HasFunctions diagrams.now wire.now }
-    ensures { OfSends (sent_over wire.now e) next cube.now result }
+    ensures { OfNext (sent_over wire.now e) next cube.now result }
 {
     match wire {
-        Wire::PointToPoint { ends } => SentOn::Same {
-            sent: sent_p2p(other_than(e, *ends)),
+        Wire::PointToPoint { ends } => OnCube::All {
+            answer: sent_p2p(other_than(e, *ends)),
         },
         Wire::Lan { live, silent } => send_lan(diagrams, live, silent, e, next, cube),
     }
@@ -48,17 +48,19 @@ fn send_lan(
     e: Place,
     next: Next,
     cube: &Cube,
-) -> SentOn
+) -> OnCube<Sent>
     requires live { TellsHeld diagrams.now live.now.function (get nat_eq live.now.ends) }
     requires silent { TellsHeld diagrams.now silent.now.function (get nat_eq silent.now.ends) }
-    ensures { OfSends (λ a. sent_lan (holder_for e live.now a) (holder_for e silent.now a)) next cube.now result }
+    ensures { OfNext (λ a. sent_lan (holder_for e live.now a) (holder_for e silent.now a)) next cube.now result }
 {
     match live.receiver(diagrams, e, next, cube) {
-        Receiver::Divides { place } => SentOn::Divides { place },
-        Receiver::Same { end: Some(place) } => SentOn::Same {
-            sent: Sent::Go { place },
+        OnCube::Divides { bit } => OnCube::Divides { bit },
+        OnCube::All {
+            answer: Some(place),
+        } => OnCube::All {
+            answer: Sent::Go { place },
         },
-        Receiver::Same { end: None } => lose_or_exit(diagrams, silent, e, next, cube),
+        OnCube::All { answer: None } => lose_or_exit(diagrams, silent, e, next, cube),
     }
 }
 
@@ -93,13 +95,19 @@ fn are_alike_over(one: &Wire, other: &Wire, e: Place) -> bool
 }
 
 // What becomes of packets to an address that no IP-enabled end has.
-fn lose_or_exit(diagrams: &Diagrams, silent: &Holders, e: Place, next: Next, cube: &Cube) -> SentOn
+fn lose_or_exit(
+    diagrams: &Diagrams,
+    silent: &Holders,
+    e: Place,
+    next: Next,
+    cube: &Cube,
+) -> OnCube<Sent>
     requires { TellsHeld diagrams.now silent.now.function (get nat_eq silent.now.ends) }
-    ensures { OfSends (λ a. sent_lan None (holder_for e silent.now a)) next cube.now result }
+    ensures { OfNext (λ a. sent_lan None (holder_for e silent.now a)) next cube.now result }
 {
     match silent.receiver(diagrams, e, next, cube) {
-        Receiver::Divides { place } => SentOn::Divides { place },
-        Receiver::Same { end: Some(_) } => SentOn::Same { sent: Sent::Lost },
-        Receiver::Same { end: None } => SentOn::Same { sent: Sent::Exit },
+        OnCube::Divides { bit } => OnCube::Divides { bit },
+        OnCube::All { answer: Some(_) } => OnCube::All { answer: Sent::Lost },
+        OnCube::All { answer: None } => OnCube::All { answer: Sent::Exit },
     }
 }

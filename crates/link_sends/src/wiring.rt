@@ -2,28 +2,29 @@ ghost use Rattle.std.specs.Prelude.{◌≡◌, ◌==◌, IfOk, IsTrue, position,
 ghost use Rattle.std.specs.Option.{option_copied};
 ghost use Rattle.indexmap.specs.IndexMap.{get};
 ghost use Rattle.net_types.specs.World.{same_place};
-ghost use Rattle.plain_rules.specs.Borrowed.{world_of};
+ghost use Rattle.net_view.specs.Borrowed.{world_of};
 ghost use Rattle.link_sends.specs.Sending.{SendAlike, OfSentOn};
 ghost use Rattle.link_sends.specs.Wired.{TellsSent};
 
-use crate::ports::Ports;
+use crate::device_index::DeviceIndex;
 use crate::segments::{segment_numbers, wires};
 use crate::sends::{are_alike, send_over};
 use crate::wire::Wire;
-use crate::{Next, Sent, SentOn};
+use crate::{Next, Sent};
+use cube_alg::OnCube;
 use cube_diagram::Diagrams;
 use hdr_bits::Cube;
 use indexmap::IndexMap;
 use net_types::Place;
+use net_view::WorldRef;
 use no_memory::NoMemory;
-use plain_rules::WorldRef;
 use std::alloc::Global;
 use std::marker::Model;
 
 /// The links of a world, indexed: it is made in near linear time, and a packet is sent without a scan.
 #[derive(Drop)]
 pub struct Wiring<'a> {
-    ports: Ports<'a>,
+    index: DeviceIndex<'a>,
     numbers: IndexMap<Place, usize>,
     wires: Vec<Wire>,
     diagrams: Diagrams,
@@ -36,9 +37,9 @@ impl<'a> Model for Wiring<'a> {
 
     ghost Value = { World };
 
-    ghost view = { λ w. w.ports };
+    ghost view = { λ w. w.index };
 
-    ghost invariant = { λ w. IsWired w.ports w.diagrams (get same_place w.numbers) w.wires.items };
+    ghost invariant = { λ w. IsWired w.index w.diagrams (get same_place w.numbers) w.wires.items };
 }
 
 impl<'a> Wiring<'a> {
@@ -51,11 +52,11 @@ impl<'a> Wiring<'a> {
     {
         let segments = world.links.segments.as_slice();
         let numbers = segment_numbers(alloc, segments)?;
-        let ports = Ports::of(alloc, world)?;
+        let index = DeviceIndex::of(alloc, world)?;
         let mut diagrams = Diagrams::new(alloc)?;
-        let wires = wires(alloc, &ports, segments, &mut diagrams)?;
+        let wires = wires(alloc, &index, segments, &mut diagrams)?;
         Ok(Wiring {
-            ports,
+            index,
             numbers,
             wires,
             diagrams,
@@ -66,11 +67,11 @@ impl<'a> Wiring<'a> {
     ///
     /// It takes no memory, and at most 226 steps in diagrams. A cube divides only by its destination; nothing is
     /// claimed of whether it must.
-    pub fn send_on(&self, interface: Place, next: Next, cube: &Cube) -> SentOn
+    pub fn send_on(&self, interface: Place, next: Next, cube: &Cube) -> OnCube<Sent>
         ensures { OfSentOn self.now interface next cube.now result }
     {
         let Some(wire) = wire_at(&self.numbers, &self.wires, interface) else {
-            return SentOn::Same { sent: Sent::Exit };
+            return OnCube::All { answer: Sent::Exit };
         };
         send_over(&self.diagrams, wire, interface, next, cube)
     }
@@ -92,7 +93,7 @@ impl<'a> Wiring<'a> {
     pub fn device_position(&self, name: u32) -> Option<usize>
         ensures { result ≡ position (λ d. d.name == name) self.now.network.devices }
     {
-        self.ports.device_position(name)
+        self.index.device_position(name)
     }
 
     // What is kept of the segment of a place.

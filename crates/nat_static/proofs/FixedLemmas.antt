@@ -5,9 +5,9 @@ use Rattle.std.proofs.lemmas.Bool.Decides.{eqb_tells}
 use Rattle.std.proofs.lemmas.Nat.Bits.{and_high, bit_at_and, bit_at_mask_inside}
 use Rattle.hdr_bits.specs.declared.header.Header.{Header}
 use Rattle.hdr_bits.specs.declared.cube.Cube.{Cube}
-use Rattle.hdr_bits.specs.Bits.{bit}
+use Rattle.hdr_bits.specs.Bits.{bit_of}
 use Rattle.hdr_bits.specs.HeaderBits.{number, header_of, IsHeader}
-use Rattle.hdr_bits.specs.CubeBits.{IsIn, place}
+use Rattle.hdr_bits.specs.CubeBits.{IsIn, digit_at}
 use Rattle.hdr_bits.proofs.Masks.{set_bit, agrees_from_fixed}
 use Rattle.hdr_bits.proofs.Numbers.{number-header_of, header_of-is_header}
 use Rattle.cube_alg.proofs.MaskLemmas.{least_holds}
@@ -23,17 +23,17 @@ use Rattle.nat_static.specs.Pieces.{ReplacesFixed}
 use Rattle.nat_static.proofs.SideLemmas.{side_address, side_port}
 use Rattle.nat_static.proofs.RuleLemmas.{rule_fits, stamp_right}
 
--- a place that is `*` lets the header's bit be 1
+-- a bit that is `*` lets the header's bit be 1
 abbrev with_one : Cube → ℕ → ℕ
 with_one c k = bit_or c.bits (1 * 2 ^ (111 - k) % 2 ^ 128)
 
-one_in : (c : Cube) (k : ℕ) → k < 112 → bit c.fixed k ≡ 0 → IsIn c (with_one c k)
+one_in : (c : Cube) (k : ℕ) → k < 112 → bit_of c.fixed k ≡ 0 → IsIn c (with_one c k)
 one_in c k l z =
     let s = set_bit c.bits k (with_one c k) (bits_below c) l refl in
-    λ i li. agrees_from_fixed c (with_one c k) i (λ e. s.2 i li (λ q. let y : bit c.fixed i ≡ 0 = ap (λ x. bit c.fixed x) q ∙ z in absurd (omega (arith, e, y))))
+    λ i li. agrees_from_fixed c (with_one c k) i (λ e. s.2 i li (λ q. let y : bit_of c.fixed i ≡ 0 = ap (λ x. bit_of c.fixed x) q ∙ z in absurd (omega (arith, e, y))))
 
--- all headers of the cube have one value in a field: so the cube has a digit at each place of the field
-star_changes : (c : Cube) (s w v k : ℕ) → k < 112 → s ≤ 111 - k → 111 - k < w + s → ((h : ℕ) → h < 2 ^ 112 → IsIn c h → h / 2 ^ s % 2 ^ w ≡ v) → bit c.fixed k ≡ 0 → ⊥
+-- all headers of the cube have one value in a field: so the cube has a digit at each bit of the field
+star_changes : (c : Cube) (s w v k : ℕ) → k < 112 → s ≤ 111 - k → 111 - k < w + s → ((h : ℕ) → h < 2 ^ 112 → IsIn c h → h / 2 ^ s % 2 ^ w ≡ v) → bit_of c.fixed k ≡ 0 → ⊥
 star_changes c s w v k l a b f z =
     let m = with_one c k in
     let set = set_bit c.bits k (with_one c k) (bits_below c) l refl in
@@ -47,9 +47,9 @@ star_changes c s w v k l a b f z =
     let i = bit_at_mask_inside s (w + s) (111 - k) a b in
     omega (arith, e, g, h, i, set.1, free_zero c k z)
 
-pub digit_there : (c : Cube) (s w v k : ℕ) → k < 112 → s ≤ 111 - k → 111 - k < w + s → ((h : ℕ) → h < 2 ^ 112 → IsIn c h → h / 2 ^ s % 2 ^ w ≡ v) → IsSome (place c k)
+pub digit_there : (c : Cube) (s w v k : ℕ) → k < 112 → s ≤ 111 - k → 111 - k < w + s → ((h : ℕ) → h < 2 ^ 112 → IsIn c h → h / 2 ^ s % 2 ^ w ≡ v) → IsSome (digit_at c k)
 digit_there c s w v k l a b f =
-    elim (eqb_tells (bit c.fixed k) 0) [
+    elim (eqb_tells (bit_of c.fixed k) 0) [
       | inl q ↦ absurd (star_changes c s w v k l a b f q.1)
       | inr q ↦ rw q.0 refl
     ]

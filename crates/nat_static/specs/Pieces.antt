@@ -5,7 +5,7 @@ use Rattle.std.specs.Option.{option_or}
 use Rattle.hdr_bits.specs.declared.header.Header.{Header}
 use Rattle.hdr_bits.specs.declared.cube.Cube.{Cube}
 use Rattle.hdr_bits.specs.HeaderBits.{number, IsHeader}
-use Rattle.hdr_bits.specs.CubeBits.{IsIn, place}
+use Rattle.hdr_bits.specs.CubeBits.{IsIn, digit_at}
 use Rattle.cube_alg.specs.declared.cut.Piece.{Piece}
 use Rattle.cube_alg.specs.declared.stamp.Stamp.{Stamp}
 use Rattle.cube_alg.specs.Pairs.{AreApart}
@@ -15,11 +15,11 @@ use Rattle.net_types.specs.declared.config.NatRule.{NatRule}
 use Rattle.nat_static.specs.declared.rules.Direction.{Direction}
 use Rattle.nat_static.specs.Rules.{fits_as}
 
--- the places of a cube from one on up to another are digits
+-- the bits of a cube from one on up to another are digits
 abbrev pub Fixes : Cube → ℕ → ℕ → Type 0
-Fixes c from to = (k : ℕ) → from ≤ k → k < to → IsSome (place c k)
+Fixes c from to = (k : ℕ) → from ≤ k → k < to → IsSome (digit_at c k)
 
--- the stamp replaces a field only where the cube fixes each place of it
+-- the stamp replaces a field only where the cube fixes each bit of it
 pub record ReplacesFixed (s : Stamp) (c : Cube) : Type 0 where
   pub dst : IsSome s.dst → Fixes c 0 32
   pub src : IsSome s.src → Fixes c 32 64

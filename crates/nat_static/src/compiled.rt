@@ -11,10 +11,10 @@ ghost use Rattle.net_types.specs.Translation.{from_outside, from_inside};
 ghost use Rattle.nat_static.specs.Rules.{outside_stamp, inside_stamp, rule_from_outside, rule_from_inside, rule_stamp, stamp_at, stamp_if, applying, translated};
 ghost use Rattle.nat_static.specs.Pieces.{ReplacesFixed, AreApartStamps, Translates, AddsRules};
 
-use crate::plain::is_plain;
 use crate::rules::{Direction, rule_cube, rule_stamp};
 use cube_alg::{Piece, Stamp, first_cut};
 use hdr_bits::Cube;
+use header_rules::is_plain;
 use net_types::NatRule;
 use no_memory::NoMemory;
 use std::alloc::Global;
@@ -26,8 +26,7 @@ pub fn compile_outside(alloc: Global, rules: &[NatRule]) -> Result<Vec<(Cube, St
     ensures exact { IfOk result (λ r. All (Translates (from_outside rules.now)) r.items) }
     ensures fixed { IfOk result (λ r. All (λ p. ReplacesFixed p.1 p.0) r.items) }
 {
-    let stamps = compile(alloc, Direction::FromOutside, rules)?;
-    Ok(stamps)
+    compile(alloc, Direction::FromOutside, rules)
 }
 
 /// Disjoint cubes that cover all headers, each with what translation from inside replaces in its headers.
@@ -37,8 +36,7 @@ pub fn compile_inside(alloc: Global, rules: &[NatRule]) -> Result<Vec<(Cube, Sta
     ensures exact { IfOk result (λ r. All (Translates (from_inside rules.now)) r.items) }
     ensures fixed { IfOk result (λ r. All (λ p. ReplacesFixed p.1 p.0) r.items) }
 {
-    let stamps = compile(alloc, Direction::FromInside, rules)?;
-    Ok(stamps)
+    compile(alloc, Direction::FromInside, rules)
 }
 
 /// The rules as pieces, each with its rule's number: the first piece that holds a header is the rule that
@@ -47,8 +45,7 @@ pub fn outside_pieces(alloc: Global, rules: &[NatRule]) -> Result<Vec<Piece>, No
     ensures { IfOk result
         (λ r. (h : Header) → IsHeader h → value_of r.items (number h) ≡ rule_from_outside rules.now h) }
 {
-    let pieces = rule_pieces(alloc, Direction::FromOutside, rules)?;
-    Ok(pieces)
+    rule_pieces(alloc, Direction::FromOutside, rules)
 }
 
 /// The rules as pieces, each with its rule's number: the first piece that holds a header is the rule that
@@ -57,8 +54,7 @@ pub fn inside_pieces(alloc: Global, rules: &[NatRule]) -> Result<Vec<Piece>, NoM
     ensures { IfOk result
         (λ r. (h : Header) → IsHeader h → value_of r.items (number h) ≡ rule_from_inside rules.now h) }
 {
-    let pieces = rule_pieces(alloc, Direction::FromInside, rules)?;
-    Ok(pieces)
+    rule_pieces(alloc, Direction::FromInside, rules)
 }
 
 /// What the rule with this number replaces from outside: its local side as the destination. Nothing is

@@ -16,7 +16,8 @@ use Rattle.canon_rows.proofs.LikeFunctions.{rows_of_other}
 use Rattle.net_types.specs.declared.label.Outcome.{Outcome}
 use Rattle.net_types.specs.declared.network.Row.{Row}
 use Rattle.net_compare.specs.declared.differences.Difference.{Difference}
-use Rattle.net_compare.specs.Numbers.{Extends, AreDistinct}
+use Rattle.hdr_bits.specs.Lists.{Extends}
+use Rattle.net_compare.specs.Numbers.{AreDistinct}
 use Rattle.net_compare.specs.Differences.{labels_of, HasLabelPair, said, told, shown, shown_by}
 
 abbrev Pairs : Type 0
@@ -36,7 +37,7 @@ still_told old new g (p ∷ ps) [] e = absurd cc
 still_told old new g (p ∷ ps) (d ∷ ds) e =
     let head : told old p ≡ said d = cc in
     let rest : map (told old) ps ≡ map said ds = cc in
-    let later : slice_get new p.value ≡ Some (d.old, d.new) = rw g.added (get_before old g.rest p.value (d.old, d.new) (ap (λ x. x.1) head)) in
+    let later : slice_get new p.value ≡ Some (d.old, d.new) = rw g.added (get_before old g.more p.value (d.old, d.new) (ap (λ x. x.1) head)) in
     let same : told new p ≡ said d = λ i. ((head i).0, later i) in
     let more = still_told old new g ps ds rest in
     λ i. same i ∷ more i

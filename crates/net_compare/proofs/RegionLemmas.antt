@@ -6,7 +6,7 @@ use Rattle.std.proofs.lemmas.Bool.Decides.{Decides-eqb}
 use Rattle.hdr_bits.specs.declared.cube.Cube.{Cube}
 use Rattle.hdr_bits.specs.declared.header.Header.{Header}
 use Rattle.hdr_bits.specs.HeaderBits.{number, header_of, IsHeader}
-use Rattle.hdr_bits.specs.Bits.{bit}
+use Rattle.hdr_bits.specs.Bits.{bit_of}
 use Rattle.hdr_bits.specs.CubeBits.{IsIn, IsStar, is_in}
 use Rattle.hdr_bits.specs.Rows.{AreRows}
 use Rattle.hdr_bits.proofs.Masks.{in_from_mask}
@@ -22,7 +22,7 @@ use Rattle.net_types.specs.Walks.{label}
 use Rattle.net_types.specs.Report.{affected, labels_if_other}
 use Rattle.net_types.proofs.LabelLaws.{none_if_same, pair_if_other}
 use Rattle.net_types.specs.World.{World}
-use Rattle.transfer_rel.specs.CubeMoves.{Worlds}
+use Rattle.net_forms.specs.Worlds.{Worlds}
 use Rattle.region_walk.specs.Answers.{HaveSameLabels}
 use Rattle.region_walk.specs.Region.{Region, AreHalves}
 use Rattle.net_compare.specs.declared.differences.Difference.{Difference}
@@ -112,8 +112,8 @@ in_halves c low high h o v = by_test (is_in low h) (is_in high h) (is_in c h) re
     or_same None false = refl
     or_same (Some w) y = refl
 
-    bit_is : (n k : ℕ) → (bit n k ≡ 0) ⊎ (bit n k ≡ 1)
-    bit_is n k = let l : bit n k < 2 = omega arith in elim (bit n k) as (λ b. b < 2 → (b ≡ 0) ⊎ (b ≡ 1)) [ zero ↦ λ m. inl refl | suc m ↦ λ q. inr (omega (arith, q)) ] l
+    bit_is : (n k : ℕ) → (bit_of n k ≡ 0) ⊎ (bit_of n k ≡ 1)
+    bit_is n k = let l : bit_of n k < 2 = omega arith in elim (bit_of n k) as (λ b. b < 2 → (b ≡ 0) ⊎ (b ≡ 1)) [ zero ↦ λ m. inl refl | suc m ↦ λ q. inr (omega (arith, q)) ] l
 
     by_test : (x y z : Bool) → is_in low h ≡ x → is_in high h ≡ y → is_in c h ≡ z → option_or (cond x o None) (cond y o None) ≡ cond z o None
     by_test true y true a b e = or_same o y
@@ -121,7 +121,7 @@ in_halves c low high h o v = by_test (is_in low h) (is_in high h) (is_in c h) re
     by_test false true true a b e = refl
     by_test false true false a b e = absurd (true≢false (sym (test_in c h ((v.ones h).0 (member high h b)).0) ∙ e))
     by_test false false false a b e = refl
-    by_test false false true a b e = elim (bit_is h v.place) [
+    by_test false false true a b e = elim (bit_is h v.bit) [
       | inl q ↦ absurd (true≢false (sym (test_in low h ((v.zeros h).1 (member c h e, q))) ∙ a))
       | inr q ↦ absurd (true≢false (sym (test_in high h ((v.ones h).1 (member c h e, q))) ∙ b))
     ]

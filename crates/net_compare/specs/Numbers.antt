@@ -7,11 +7,6 @@ use Rattle.net_types.specs.Order.{IsLabel}
 abbrev pub AreLabels : List Outcome × List Outcome → Type 0
 AreLabels pair = IsLabel pair.0 × IsLabel pair.1
 
--- items were added at the end, and those that were there keep their numbers
-pub record Extends {A : Type 0} (old new : List A) : Type 0 where
-  pub rest : List A
-  pub added : new ≡ old ++ rest
-
 -- no item has two numbers
 pub record AreDistinct {A : Type 0} (items : List A) : Type 0 where
   pub apart : (i j : ℕ) (x : A) → slice_get items i ≡ Some x → slice_get items j ≡ Some x → i ≡ j

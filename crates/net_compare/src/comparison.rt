@@ -7,7 +7,7 @@ use crate::regions::add_differences;
 use difference_reach::Reach;
 use hdr_bits::Cube;
 use net_types::{Links, List, Network, NoMemory, Place, Section};
-use plain_rules::WorldRef;
+use net_view::WorldRef;
 use std::alloc::Global;
 use transfer_rel::Prepared;
 

@@ -33,7 +33,8 @@ impl Model for LabelPairs {
 }
 
 impl LabelPairs {
-    ghost use Rattle.net_compare.specs.Numbers.{Extends, AreDistinct};
+    ghost use Rattle.hdr_bits.specs.Lists.{Extends};
+    ghost use Rattle.net_compare.specs.Numbers.{AreDistinct};
 
     /// No pairs.
     pub(crate) fn new(alloc: Global) -> LabelPairs

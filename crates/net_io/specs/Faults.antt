@@ -11,6 +11,10 @@ counted count = min (count + 1) (2 ^ 64 - 1)
 abbrev pub Rose : ℕ → ℕ → Type 0
 Rose before now = counted before ≤ now
 
+-- no fault was counted
+abbrev pub Faultless : ℕ → ℕ → Type 0
+Faultless before now = Rose before now → ⊥
+
 -- the count never falls, and a call that answers Failed has raised it
 pub record HasCause {T : Type 0} (before now : ℕ) (result : Result T FileFail) : Type 0 where
   pub later : before ≤ now

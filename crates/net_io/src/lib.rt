@@ -19,10 +19,7 @@ mod writing;
 
 pub use mem_files::MemFiles;
 pub use mem_sink::MemSink;
-pub use reading::{FILE_LIMIT, FileFail, Files, ReadFail, read_all};
+pub use reading::{FileFail, Files, ReadFail, read_all};
 pub use real_files::RealFiles;
 pub use real_sink::RealSink;
 pub use writing::{Failed, Sink, write_all};
-
-#[cfg(test)]
-mod tests;

@@ -2,6 +2,7 @@
 ghost use Rattle.std.specs.Prelude.{◌≡◌, ℕ, ◌<◌, ◌≤◌, Option, Some, Err};
 ghost use Rattle.std.specs.Prelude.{IfOk, IfSome, IsSome, IsNone, IsSomeAnd, IsTrue, length, map, string_bytes};
 ghost use Rattle.net_io.specs.Faults.{Rose, HasCause};
+ghost use Rattle.net_io.specs.Limits.{file_limit};
 ghost use Rattle.net_io.specs.Files.{Told, content, has_folder, IsListing, IsPiece, IsAbsentUnless};
 
 use std::alloc::{AllocError, Global};
@@ -67,7 +68,7 @@ pub trait Files {
 pub enum ReadFail {
     /// The files failed, and counted a fault.
     Failed = 1,
-    /// The file has more than [`FILE_LIMIT`] bytes.
+    /// The file has more than 16,777,216 bytes.
     TooLong = 2,
     /// There was no memory for the bytes.
     NoMemory = 3,
@@ -99,21 +100,21 @@ impl From<AllocError> for ReadFail {
     }
 }
 
-/// The most bytes that a file may have.
-pub const FILE_LIMIT: usize = 16_777_216;
+// The most bytes that a file may have.
+const FILE_LIMIT: usize = 16_777_216;
 
 // The most bytes of one read.
 const ROOM: usize = 65_536;
 
-/// Reads a whole file, of at most [`FILE_LIMIT`] bytes.
+/// Reads a whole file, of at most 16,777,216 bytes.
 ///
 /// Each answer is exact, but that a fault or want of memory may come in its place: where the files are
-/// told, `Ok` has the file's bytes, `TooLong` comes where the file has more than `FILE_LIMIT` bytes, and
+/// told, `Ok` has the file's bytes, `TooLong` comes where the file has more than 16,777,216 bytes, and
 /// `Absent` where it isn't there. An `Ok` is within the limit also where nothing is told.
 pub fn read_all<F: Files>(alloc: Global, files: &mut F, path: &str) -> Result<Vec<u8>, ReadFail>
     ensures bytes { IfOk result (λ bytes. IfSome (F.told files.old) (λ t. content t path.now ≡ Some bytes.items)) }
-    ensures limit { IfOk result (λ bytes. length bytes.items ≤ FILE_LIMIT) }
-    ensures too_long { result ≡ Err ReadFail.TooLong → IfSome (F.told files.old) (λ t. IsSomeAnd (content t path.now) (λ bytes. FILE_LIMIT < length bytes)) }
+    ensures limit { IfOk result (λ bytes. length bytes.items ≤ file_limit) }
+    ensures too_long { result ≡ Err ReadFail.TooLong → IfSome (F.told files.old) (λ t. IsSomeAnd (content t path.now) (λ bytes. file_limit < length bytes)) }
     ensures absent { result ≡ Err ReadFail.Absent → IfSome (F.told files.old) (λ t. IsNone (content t path.now)) }
     ensures failed { result ≡ Err ReadFail.Failed → Rose (F.faults files.old) (F.faults files.new) }
 

@@ -1,3 +1,4 @@
 pub mod Hosts
 pub mod Steps
 pub mod Listing
+pub mod OneAnswer

@@ -14,7 +14,7 @@ use Rattle.topo_links.specs.Ends.{Word}
 use Rattle.topo_links.specs.Check.{host_of}
 use Rattle.net_load.specs.declared.folder.LoadFail.{LoadFail}
 use Rattle.net_load.specs.declared.folder.LoadFail.TheVariants as fail
-use Rattle.net_load.specs.declared.folder.TheConstants.{FOLDER_LIMIT}
+use Rattle.net_load.specs.Limits.{folder_limit}
 use Rattle.net_load.specs.declared.loader.Loader.{Loader}
 use Rattle.net_load.specs.Folder.{IsRead, AreLoaded, total, size_at, BytesFail, FileFails, FailsAt, Unless, FaultRose, HasCause}
 use Rattle.net_load.specs.Loader.{IsLoader, AddsFile, Accepts}
@@ -78,7 +78,7 @@ total_more t folder names name = sum_by-append (size_at t folder) names (name �
 
 -- one more file
 more : (t : Told) (folder : Word) (names : List Word) (name : Word) (old new : Loader) (l : Loaded) → AreLoaded t folder names old.loaded.items → old.total ≡ total t folder names
-    → AddsFile t folder name old new l → new.total ≤ FOLDER_LIMIT → AreLoaded t folder (names ++ name ∷ []) new.loaded.items
+    → AddsFile t folder name old new l → new.total ≤ folder_limit → AreLoaded t folder (names ++ name ∷ []) new.loaded.items
 more t folder names name old new l done size a within =
     let sum : new.total ≡ total t folder (names ++ name ∷ []) = a.adds.total ∙ ap (λ n. n + size_at t folder name) size ∙ sym (total_more t folder names name) in
     subst (λ (ls : List Loaded). AreLoaded t folder (names ++ name ∷ []) ls) (sym a.adds.loaded) (record {

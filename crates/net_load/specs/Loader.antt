@@ -12,8 +12,8 @@ use Rattle.ios_config.specs.declared.reader.Reading.{Reading}
 use Rattle.ios_config.specs.Reads.{Reads, Refused}
 use Rattle.topo_links.specs.Ends.{Word}
 use Rattle.topo_links.specs.Check.{host_of}
-use Rattle.net_io.specs.declared.reading.TheConstants.{FILE_LIMIT}
-use Rattle.net_load.specs.declared.folder.TheConstants.{FOLDER_LIMIT}
+use Rattle.net_io.specs.Limits.{file_limit}
+use Rattle.net_load.specs.Limits.{folder_limit}
 use Rattle.net_load.specs.declared.folder.LoadFail.{LoadFail}
 use Rattle.net_load.specs.declared.folder.LoadFail.TheVariants as fail
 use Rattle.net_load.specs.declared.loader.Loader.{Loader}
@@ -23,7 +23,7 @@ use Rattle.net_load.specs.Folder.{IsRead, size_at, BytesFail, Unless, FileFails,
 -- the hostnames are those of the files, the files are within the limit, and they have no more names than bytes
 pub record IsLoader (l : Loader) : Type 0 where
   pub hosts : l.hosts ≡ map host_of l.loaded.items
-  pub size : l.total ≤ FOLDER_LIMIT
+  pub size : l.total ≤ folder_limit
   pub names : length (folder_names l.loaded.items) ≤ l.total
 
 -- one more file of this size, whose hostname is new
@@ -66,7 +66,7 @@ ReadsBytes path bytes (Err e) = RefusedBytes path bytes e
 -- a file's bytes, or why there are none
 abbrev pub NoBytes : Word → Option (List ℕ) → LoadFail → Type 0
 NoBytes path None e = e ≡ fail.Absent path
-NoBytes path (Some bytes) e = (e ≡ fail.TooLong path) × (FILE_LIMIT < length bytes)
+NoBytes path (Some bytes) e = (e ≡ fail.TooLong path) × (file_limit < length bytes)
 
 abbrev pub ReadsFile : {T : Type 0} → (T → List ℕ) → Told → Word → Result T LoadFail → Type 0
 ReadsFile view t path (Ok x) = content t path ≡ Some (view x)

@@ -1,5 +1,6 @@
 //! Loading a folder of configurations.
 ghost use Rattle.std.specs.Prelude.{◌≡◌, ◌≢◌, ◌≤◌, IfOk, IfSome, filter, length, map, string_bytes};
+ghost use Rattle.net_load.specs.Limits.{files_limit, folder_limit};
 ghost use Rattle.net_load.specs.Numbering.{folder_names};
 ghost use Rattle.net_load.specs.Folder.{is_config_name, Loads, Lists, HasCause};
 ghost use Rattle.net_load.specs.Loader.{list_fail_of};
@@ -11,11 +12,11 @@ use net_io::{FileFail, Files};
 use net_types::{Loaded, NoMemory, Text};
 use std::alloc::{AllocError, AllocFailed, Global};
 
-/// The most files that a folder may have whose names end in `.cfg`.
-pub const FILES_LIMIT: usize = 1024;
+// The most files that a folder may have whose names end in `.cfg`.
+const FILES_LIMIT: usize = 1024;
 
 /// The most bytes that the files of a folder may have together.
-pub const FOLDER_LIMIT: usize = 67_108_864;
+pub(crate) const FOLDER_LIMIT: usize = 67_108_864;
 
 /// Why a folder isn't loaded. A path is that of the folder or of a file, `FOLDER/NAME`.
 #[derive(Drop)]
@@ -26,9 +27,9 @@ pub enum LoadFail {
     Absent { path: Text },
     /// The file has more than 16,777,216 bytes.
     TooLong { path: Text },
-    /// More than [`FILES_LIMIT`] names of the folder end in `.cfg`.
+    /// More than 1,024 names of the folder end in `.cfg`.
     TooManyFiles { path: Text },
-    /// With the next file, the folder's files have more than [`FOLDER_LIMIT`] bytes together. The path is the folder's.
+    /// With the next file, the folder's files have more than 67,108,864 bytes together. The path is the folder's.
     FolderTooLong { path: Text },
     /// The file isn't a configuration.
     Refused { path: Text, refusal: Refusal },
@@ -140,8 +141,8 @@ pub fn load_folder<F: Files>(
     ensures exact { IfSome (F.told files.old) (λ t. Loads (λ loaded. loaded.items) t folder.now result) }
 
     // Also where nothing is told.
-    ensures few { IfOk result (λ loaded. length loaded.items ≤ FILES_LIMIT) }
-    ensures names { IfOk result (λ loaded. length (folder_names loaded.items) ≤ FOLDER_LIMIT) }
+    ensures few { IfOk result (λ loaded. length loaded.items ≤ files_limit) }
+    ensures names { IfOk result (λ loaded. length (folder_names loaded.items) ≤ folder_limit) }
 
     ensures same { F.told files.new ≡ F.told files.old }
     ensures cause { HasCause (F.faults files.old) (F.faults files.new) result }

@@ -2,11 +2,9 @@
 #![tactic(auto)]
 
 mod folder;
+pub mod laws;
 mod loader;
 mod numbering;
 
-pub use folder::{FILES_LIMIT, FOLDER_LIMIT, LoadFail, load_folder};
+pub use folder::{LoadFail, load_folder};
 pub use numbering::{Numbered, number_all};
-
-#[cfg(test)]
-mod tests;

@@ -3,15 +3,17 @@ ghost use Rattle.std.specs.Prelude.{◌≡◌, ◌≢◌, ◌≤◌, ◌+◌, �
 ghost use Rattle.std.specs.Option.{option_copied};
 ghost use Rattle.std.specs.Str.{bytes_eq};
 ghost use Rattle.std.specs.List.{list_any};
+ghost use Rattle.net_io.specs.Limits.{file_limit};
 ghost use Rattle.net_io.specs.Files.{path_in};
 ghost use Rattle.topo_links.specs.Check.{host_of};
+ghost use Rattle.net_load.specs.Limits.{folder_limit};
 ghost use Rattle.net_load.specs.Numbering.{config_names, folder_names};
 ghost use Rattle.net_load.specs.Folder.{LoadsNames, HasCause};
 ghost use Rattle.net_load.specs.Loader.{IsLoader, AddsReading, Accepts, ReadsBytes, ReadsFile, Steps, load_fail_of};
 
 use crate::folder::{FOLDER_LIMIT, LoadFail};
 use ios_config::{ConfigFail, Reading, read_config};
-use net_io::{FILE_LIMIT, Files, ReadFail, read_all};
+use net_io::{Files, ReadFail, read_all};
 use net_types::{Duplicate, Loaded, NoMemory, Text};
 use std::alloc::Global;
 use topo_links::NameIndex;
@@ -65,7 +67,7 @@ fn read_fail(alloc: Global, path: &str, cause: ReadFail) -> LoadFail
 /// The bytes of a file.
 fn read_file<F: Files>(alloc: Global, files: &mut F, path: &str) -> Result<Vec<u8>, LoadFail>
     ensures file { IfSome (F.told files.old) (λ t. ReadsFile (λ bytes. bytes.items) t path.now result) }
-    ensures limit { IfOk result (λ bytes. length bytes.items ≤ FILE_LIMIT) }
+    ensures limit { IfOk result (λ bytes. length bytes.items ≤ file_limit) }
     ensures same { F.told files.new ≡ F.told files.old }
     ensures cause { HasCause (F.faults files.old) (F.faults files.new) result }
 {
@@ -77,7 +79,7 @@ fn read_file<F: Files>(alloc: Global, files: &mut F, path: &str) -> Result<Vec<u
 
 /// The configuration of the file at a path.
 fn read_bytes(alloc: Global, path: &Text, bytes: &[u8]) -> Result<Reading, LoadFail>
-    requires { length bytes.now ≤ FILE_LIMIT }
+    requires { length bytes.now ≤ file_limit }
     ensures reads { ReadsBytes path.now bytes.now result }
     ensures names { IfOk result (λ r. length (config_names r.config) ≤ length bytes.now) }
 {
@@ -131,7 +133,7 @@ impl Loader {
         requires loader { IsLoader self.old }
         requires host { list_any (bytes_eq (host_of loaded)) (map host_of self.old.loaded.items) ≡ false }
         requires names { length (config_names loaded.config) ≤ size }
-        requires size { self.old.total + size ≤ FOLDER_LIMIT }
+        requires size { self.old.total + size ≤ folder_limit }
         ensures loaded { OnOk result (self.new.loaded.items ≡ self.old.loaded.items ++ loaded ∷ []) }
         ensures total { OnOk result (self.new.total ≡ self.old.total + size) }
         ensures loader { OnOk result (IsLoader self.new) }
@@ -153,7 +155,7 @@ impl Loader {
     ) -> Result<(), LoadFail>
         requires loader { IsLoader self.old }
         requires names { length (config_names loaded.config) ≤ size }
-        requires size { self.old.total + size ≤ FOLDER_LIMIT }
+        requires size { self.old.total + size ≤ folder_limit }
         ensures adds { AddsReading folder.now path loaded size self.old self.new result }
         ensures loader { OnOk result (IsLoader self.new) }
     {
@@ -176,7 +178,7 @@ impl Loader {
         bytes: &[u8],
     ) -> Result<(), LoadFail>
         requires loader { IsLoader self.old }
-        requires limit { length bytes.now ≤ FILE_LIMIT }
+        requires limit { length bytes.now ≤ file_limit }
         ensures accepts { Accepts folder.now name.now bytes.now self.old self.new result }
         ensures loader { OnOk result (IsLoader self.new) }
     {
@@ -226,7 +228,7 @@ pub fn load_files<F: Files>(
 ) -> Result<Vec<Loaded>, LoadFail>
     ensures files { IfSome (F.told files.old) (λ t. LoadsNames (λ loaded. loaded.items) t folder.now (map string_bytes names.now) result) }
     ensures count { IfOk result (λ loaded. length loaded.items ≡ length names.now) }
-    ensures names { IfOk result (λ loaded. length (folder_names loaded.items) ≤ FOLDER_LIMIT) }
+    ensures names { IfOk result (λ loaded. length (folder_names loaded.items) ≤ folder_limit) }
     ensures same { F.told files.new ≡ F.told files.old }
     ensures cause { HasCause (F.faults files.old) (F.faults files.new) result }
 {

@@ -6,10 +6,14 @@
 
 ghost use Rattle.std.specs.Prelude.{◌≡◌, ◌+◌, ◌-◌, ◌^◌, ◌≤◌, [], ◌++◌, IfOk, length, take, drop, position};
 ghost use Rattle.std.specs.List.{position_or_len};
+ghost use Rattle.net_text.specs.Limits.{text_limit, word_limit};
 ghost use Rattle.net_text.specs.Lines.{is_separator, is_line_end, is_indented, word_spans, lines_of, add_line, piece};
 
-use net_types::{List, NoMemory};
+use net_types::{List, NoMemory, Text};
 use std::alloc::Global;
+
+// The most bytes of a word that are told.
+const WORD_LIMIT: usize = 64;
 
 /// A part of a text, from byte `start` up to, and without, byte `end`.
 #[derive(Clone, Copy, Debug, PartialEq, Eq)]
@@ -34,7 +38,7 @@ pub struct Line {
 /// Each line that has a word is there once, in order. A line without a word is left out, but counts
 /// in the numbers of the lines after it.
 pub fn lines(alloc: Global, bytes: &[u8]) -> Result<Vec<Line>, NoMemory>
-    requires { length bytes.now ≤ 16777216 }
+    requires { length bytes.now ≤ text_limit }
     ensures exact { IfOk result (λ lines. lines.items ≡ lines_of bytes.now) }
     ensures count { IfOk result (λ lines. length lines.items ≤ length bytes.now + 1) }
 {
@@ -51,9 +55,26 @@ pub fn part(bytes: &[u8], span: Span) -> &[u8]
     &bytes[start..end]
 }
 
+/// The word, at most its first 64 bytes.
+pub fn cut(alloc: Global, word: &Text) -> Result<Text, NoMemory>
+    ensures { IfOk result (λ text. text ≡ take word_limit word.now) }
+{
+    Text::copy_of(alloc, front(word.as_bytes()))
+}
+
+/// The first 64 bytes.
+fn front(bytes: &[u8]) -> &[u8]
+    ensures { result.now ≡ take word_limit bytes.now }
+{
+    if bytes.len() <= WORD_LIMIT {
+        return bytes;
+    }
+    before(bytes, WORD_LIMIT)
+}
+
 /// The lines, one after the other.
 fn split_lines(alloc: Global, bytes: &[u8]) -> Result<Vec<Line>, NoMemory>
-    requires { length bytes.now ≤ 16777216 }
+    requires { length bytes.now ≤ text_limit }
     ensures { IfOk result (λ lines. lines.items ≡ lines_of bytes.now) }
 {
     let mut found = Vec::new(alloc);
@@ -81,7 +102,7 @@ fn split_lines(alloc: Global, bytes: &[u8]) -> Result<Vec<Line>, NoMemory>
 
 /// The words of a line that begins at byte `start` of the text.
 fn words(alloc: Global, line: &[u8], start: usize) -> Result<List<Span>, NoMemory>
-    requires { start + length line.now ≤ 16777216 }
+    requires { start + length line.now ≤ text_limit }
     ensures { IfOk result (λ words. words ≡ word_spans start line.now) }
 {
     let mut words = Vec::new(alloc);

@@ -12,7 +12,7 @@ use Rattle.net_types.specs.declared.network.Segment.{Segment}
 use Rattle.net_types.specs.declared.network.State.{State}
 use Rattle.net_types.specs.Translation.{with_dst, with_src, from_outside, from_inside, port_fits_dst, plain_fits_dst, port_fits_src, plain_fits_src}
 use Rattle.net_types.specs.Routes.{hops, rib_of}
-use Rattle.net_types.specs.World.{World, Port, port_at, port_named, segment_of, is_other, answers, is_silent}
+use Rattle.net_types.specs.World.{World, Seat, seat_at, seat_named, segment_of, is_other, answers, is_silent}
 use Rattle.net_types.specs.Moves.{moves_at, moves_in, local_or_forward, owner, is_dropped, is_inside, is_outside, lets_in, passes_list, coming_in, going_out, move_by, leave_if_any, send, send_p2p, send_lan}
 use Rattle.net_types.specs.Walks.{IsWalk, End, dropped, expired, local, exit, end_of, IsEnd}
 use Rattle.net_types.proofs.Members.{in_one, in_map}
@@ -50,15 +50,15 @@ either_kept : (g : Header) (b : Bool) (h k : Header) → Keeps g h → Keeps g k
 either_kept g true h k e f = e
 either_kept g false h k e f = f
 
-in_kept : (port : Port) (h : Header) → Keeps h (coming_in port h)
-in_kept port h =
-    let rules = port.device.config.nat in
-    either_kept h (is_outside port.interface.side) (from_outside rules h) h (by_dst h (find (port_fits_dst h) rules) (find (plain_fits_dst h) rules)) (kept h)
+in_kept : (seat : Seat) (h : Header) → Keeps h (coming_in seat h)
+in_kept seat h =
+    let rules = seat.device.config.nat in
+    either_kept h (is_outside seat.interface.side) (from_outside rules h) h (by_dst h (find (port_fits_dst h) rules) (find (plain_fits_dst h) rules)) (kept h)
 
-out_kept : (port out : Port) (h : Header) → Keeps h (going_out port out h)
-out_kept port out h =
-    let rules = port.device.config.nat in
-    by_side (is_inside port.interface.side) (is_outside out.interface.side) (from_inside rules h) (by_src h (find (port_fits_src h) rules) (find (plain_fits_src h) rules))
+out_kept : (seat out : Seat) (h : Header) → Keeps h (going_out seat out h)
+out_kept seat out h =
+    let rules = seat.device.config.nat in
+    by_side (is_inside seat.interface.side) (is_outside out.interface.side) (from_inside rules h) (by_src h (find (port_fits_src h) rules) (find (plain_fits_src h) rules))
   where
     by_side : (a b : Bool) (k : Header) → Keeps h k → Keeps h (cond (a && b) k h)
     by_side true true k e = e
@@ -85,16 +85,16 @@ module _ (w : World) where
       either_by g s.lan (send_lan e h (find (answers w a e) s.ends) (find (is_silent w a e) s.ends)) (send_p2p e h (find (is_other e) s.ends))
       (by_lan g e h (find (answers w a e) s.ends) (find (is_silent w a e) s.ends) k) (by_p2p g e h (find (is_other e) s.ends) k)
 
-  by_leave : (port : Port) (h : Header) (a : ℕ) (out : Option Port) → KeptBy h (leave_if_any w port h a out)
-  by_leave port h a None = tt
-  by_leave port h a (Some out) =
-      let g = going_out port out h in
-      either_by h (passes_list port.device.config out.interface.output g) (send w out.place a g (segment_of w out.place)) Lost
-      (by_send h out.place a g (segment_of w out.place) (out_kept port out h)) tt
+  by_leave : (seat : Seat) (h : Header) (a : ℕ) (out : Option Seat) → KeptBy h (leave_if_any w seat h a out)
+  by_leave seat h a None = tt
+  by_leave seat h a (Some out) =
+      let g = going_out seat out h in
+      either_by h (passes_list seat.device.config out.interface.output g) (send w out.place a g (segment_of w out.place)) Lost
+      (by_send h out.place a g (segment_of w out.place) (out_kept seat out h)) tt
 
-  by_hop : (port : Port) (h : Header) (hop : Hop) → KeptBy h (move_by w port h hop)
-  by_hop port h Discard = tt
-  by_hop port h (Out name a) = by_leave port h a (port_named port.device name)
+  by_hop : (seat : Seat) (h : Header) (hop : Hop) → KeptBy h (move_by w seat h hop)
+  by_hop seat h Discard = tt
+  by_hop seat h (Out name a) = by_leave seat h a (seat_named seat.device name)
 
   in_either : (b : Bool) (ms ns : List Move) (m : Move) → Contains (cond b ms ns) m → Contains ms m ⊎ Contains ns m
   in_either true ms ns m h = inl h
@@ -103,11 +103,11 @@ module _ (w : World) where
   by_drop : (h : Header) (m : Move) → Contains (Drop ∷ []) m → KeptBy h m
   by_drop h m c = subst (KeptBy h) (in_one Drop m c) tt
 
-  by_forward : (port : Port) (h : Header) (own : Option Port) (m : Move) → Contains (local_or_forward w port h own) m → KeptBy h m
-  by_forward port h (Some own) m c = subst (KeptBy h) (in_one (Local own.place) m c) tt
-  by_forward port h None m c =
-      let i = in_map (move_by w port h) (hops (rib_of port.device.config) h.dst) m c in
-      subst (KeptBy h) i.2 (by_hop port h i.0)
+  by_forward : (seat : Seat) (h : Header) (own : Option Seat) (m : Move) → Contains (local_or_forward w seat h own) m → KeptBy h m
+  by_forward seat h (Some own) m c = subst (KeptBy h) (in_one (Local own.place) m c) tt
+  by_forward seat h None m c =
+      let i = in_map (move_by w seat h) (hops (rib_of seat.device.config) h.dst) m c in
+      subst (KeptBy h) i.2 (by_hop seat h i.0)
 
   kept_by_then : (f g : Header) → Keeps f g → (m : Move) → KeptBy g m → KeptBy f m
   kept_by_then f g k Drop e = tt
@@ -116,21 +116,21 @@ module _ (w : World) where
   kept_by_then f g k (Exit p h) e = kept_then f g h k e
   kept_by_then f g k (Go p h) e = kept_then f g h k e
 
-  by_moves : (o : Option Port) (h : Header) (m : Move) → Contains (moves_at w o h) m → KeptBy h m
+  by_moves : (o : Option Seat) (h : Header) (m : Move) → Contains (moves_at w o h) m → KeptBy h m
   by_moves None h m c = by_drop h m c
-  by_moves (Some port) h m c =
-      let g = coming_in port h in
-      elim (in_either (lets_in port h) (moves_in w port g) (Drop ∷ []) m c) [
-        | inl d ↦ kept_by_then h g (in_kept port h) m (elim (in_either (is_dropped port.device.config g.dst) (Drop ∷ []) (local_or_forward w port g (owner port g.dst)) m d) [
+  by_moves (Some seat) h m c =
+      let g = coming_in seat h in
+      elim (in_either (lets_in seat h) (moves_in w seat g) (Drop ∷ []) m c) [
+        | inl d ↦ kept_by_then h g (in_kept seat h) m (elim (in_either (is_dropped seat.device.config g.dst) (Drop ∷ []) (local_or_forward w seat g (owner seat g.dst)) m d) [
           | inl e ↦ by_drop g m e
-          | inr e ↦ by_forward port g (owner port g.dst) m e
+          | inr e ↦ by_forward seat g (owner seat g.dst) m e
         ])
         | inr d ↦ by_drop h m d
       ]
 
   pub kept_by_walk : (n : ℕ) (s u : State) → IsWalk w n s u → Keeps s.header u.header
   kept_by_walk zero s u e = subst (λ (v : State). Keeps s.header v.header) e (kept s.header)
-  kept_by_walk (suc n) s u (v, h, g) = kept_then s.header v.header u.header (kept_by_walk n s v h) (by_moves (port_at w v.place) v.header (Go u.place u.header) g)
+  kept_by_walk (suc n) s u (v, h, g) = kept_then s.header v.header u.header (kept_by_walk n s v h) (by_moves (seat_at w v.place) v.header (Go u.place u.header) g)
 
 -- the last header of an end keeps them
 abbrev pub KeptAt : Header → End → Type 0
@@ -157,4 +157,4 @@ at_end g false (Go p h) e f k = cc
 pub kept_at_end : (w : World) (t : ℕ) (s : State) (e : End) → IsEnd w t s e → KeptAt s.header e
 kept_at_end w t s e i =
     at_end s.header (i.count + 1 == t) i.move e i.ends
-    (kept_by_then w s.header i.state.header (kept_by_walk w i.count s i.state i.walk) i.move (by_moves w (port_at w i.state.place) i.state.header i.move i.made))
+    (kept_by_then w s.header i.state.header (kept_by_walk w i.count s i.state i.walk) i.move (by_moves w (seat_at w i.state.place) i.state.header i.move i.made))

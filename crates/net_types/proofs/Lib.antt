@@ -1,4 +1,5 @@
 pub mod Members
+pub mod Runs
 pub mod Ordered
 pub mod Outcomes
 pub mod Labels

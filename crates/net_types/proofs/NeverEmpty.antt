@@ -10,7 +10,7 @@ use Rattle.net_types.specs.declared.network.Move.TheVariants.{Drop, Local, Lost,
 use Rattle.net_types.specs.declared.network.Place.{Place}
 use Rattle.net_types.specs.declared.network.State.{State}
 use Rattle.net_types.specs.Routes.{hops, hops_within, or_discard, route_hops, best, rib_of}
-use Rattle.net_types.specs.World.{World, Port, port_at}
+use Rattle.net_types.specs.World.{World, Seat, seat_at}
 use Rattle.net_types.specs.Moves.{moves, moves_at, moves_in, local_or_forward, owner, is_dropped, lets_in, coming_in, move_by}
 use Rattle.net_types.specs.Walks.{next_state, next_states, states_after, end_by, last_end_by, ends_at, ends_after, ends_below, ends}
 
@@ -44,18 +44,18 @@ some_map f [] h = absurd h
 some_map f (x ∷ xs) h = tt
 
 module _ (w : World) where
-  forwarded : (port : Port) (h : Header) (own : Option Port) → HasItem (local_or_forward w port h own)
-  forwarded port h (Some own) = tt
-  forwarded port h None = some_map (move_by w port h) (hops (rib_of port.device.config) h.dst) (some_hops (rib_of port.device.config).routes (rib_of port.device.config).count h.dst)
+  forwarded : (seat : Seat) (h : Header) (own : Option Seat) → HasItem (local_or_forward w seat h own)
+  forwarded seat h (Some own) = tt
+  forwarded seat h None = some_map (move_by w seat h) (hops (rib_of seat.device.config) h.dst) (some_hops (rib_of seat.device.config).routes (rib_of seat.device.config).count h.dst)
 
-  some_at : (o : Option Port) (h : Header) → HasItem (moves_at w o h)
+  some_at : (o : Option Seat) (h : Header) → HasItem (moves_at w o h)
   some_at None h = tt
-  some_at (Some port) h =
-      let g = coming_in port h in
-      choice (lets_in port h) (moves_in w port g) (Drop ∷ []) (choice (is_dropped port.device.config g.dst) (Drop ∷ []) (local_or_forward w port g (owner port g.dst)) tt (forwarded port g (owner port g.dst))) tt
+  some_at (Some seat) h =
+      let g = coming_in seat h in
+      choice (lets_in seat h) (moves_in w seat g) (Drop ∷ []) (choice (is_dropped seat.device.config g.dst) (Drop ∷ []) (local_or_forward w seat g (owner seat g.dst)) tt (forwarded seat g (owner seat g.dst))) tt
 
   pub some_moves : (p : Place) (h : Header) → HasItem (moves w p h)
-  some_moves p h = some_at (port_at w p) h
+  some_moves p h = some_at (seat_at w p) h
 
   -- a move ends the packet or leads on, and the last one ends it
   end_or_on : (ms : List Move) → HasItem ms → HasItem (filter_map end_by ms) ⊎ HasItem (filter_map next_state ms)

@@ -10,7 +10,7 @@ use Rattle.net_types.specs.declared.network.Hop.TheVariants.{Discard, Out}
 use Rattle.net_types.specs.declared.network.Move.{Move}
 use Rattle.net_types.specs.declared.network.Move.TheVariants.{Drop, Lost}
 use Rattle.net_types.specs.declared.network.Place.{Place}
-use Rattle.net_types.specs.World.{World, Port, segment_of, port_named, port_at}
+use Rattle.net_types.specs.World.{World, Seat, segment_of, seat_named, seat_at}
 use Rattle.net_types.specs.Moves.{moves, moves_at, moves_in, local_or_forward, owner, is_dropped, move_by, leave_if_any, send, passes_list, going_out, coming_in, lets_in}
 use Rattle.net_types.specs.Routes.{hops, rib_of}
 use Rattle.net_types.specs.declared.network.State.{State}
@@ -28,38 +28,38 @@ module _ (w : World) (alone : w.links.segments ≡ []) where
   stays_or_lost true m e = e
   stays_or_lost false m e = refl
 
-  leaves : (port : Port) (h : Header) (a : ℕ) (out : Option Port) → next_state (leave_if_any w port h a out) ≡ None
-  leaves port h a None = refl
-  leaves port h a (Some out) =
-      let g : Header = going_out port out h in
-      stays_or_lost (passes_list port.device.config out.interface.output g) (send w out.place a g (segment_of w out.place)) (sent_out out.place a g)
+  leaves : (seat : Seat) (h : Header) (a : ℕ) (out : Option Seat) → next_state (leave_if_any w seat h a out) ≡ None
+  leaves seat h a None = refl
+  leaves seat h a (Some out) =
+      let g : Header = going_out seat out h in
+      stays_or_lost (passes_list seat.device.config out.interface.output g) (send w out.place a g (segment_of w out.place)) (sent_out out.place a g)
 
-  stays : (port : Port) (h : Header) (hop : Hop) → next_state (move_by w port h hop) ≡ None
-  stays port h Discard = refl
-  stays port h (Out name a) = leaves port h a (port_named port.device name)
+  stays : (seat : Seat) (h : Header) (hop : Hop) → next_state (move_by w seat h hop) ≡ None
+  stays seat h Discard = refl
+  stays seat h (Out name a) = leaves seat h a (seat_named seat.device name)
 
-  none_by : (port : Port) (h : Header) (hs : List Hop) → filter_map next_state (map (move_by w port h) hs) ≡ []
-  none_by port h [] = refl
-  none_by port h (hop ∷ hs) = ap (λ o. cons_option o (filter_map next_state (map (move_by w port h) hs))) (stays port h hop) ∙ none_by port h hs
+  none_by : (seat : Seat) (h : Header) (hs : List Hop) → filter_map next_state (map (move_by w seat h) hs) ≡ []
+  none_by seat h [] = refl
+  none_by seat h (hop ∷ hs) = ap (λ o. cons_option o (filter_map next_state (map (move_by w seat h) hs))) (stays seat h hop) ∙ none_by seat h hs
 
   either : (b : Bool) (ms ns : List Move) → filter_map next_state ms ≡ [] → filter_map next_state ns ≡ [] → filter_map next_state (cond b ms ns) ≡ []
   either true ms ns e f = e
   either false ms ns e f = f
 
-  forwarded : (port : Port) (h : Header) (own : Option Port) → filter_map next_state (local_or_forward w port h own) ≡ []
-  forwarded port h None = none_by port h (hops (rib_of port.device.config) h.dst)
-  forwarded port h (Some own) = refl
+  forwarded : (seat : Seat) (h : Header) (own : Option Seat) → filter_map next_state (local_or_forward w seat h own) ≡ []
+  forwarded seat h None = none_by seat h (hops (rib_of seat.device.config) h.dst)
+  forwarded seat h (Some own) = refl
 
-  taken_in : (port : Port) (h : Header) → filter_map next_state (moves_in w port h) ≡ []
-  taken_in port h = either (is_dropped port.device.config h.dst) (Drop ∷ []) (local_or_forward w port h (owner port h.dst)) refl (forwarded port h (owner port h.dst))
+  taken_in : (seat : Seat) (h : Header) → filter_map next_state (moves_in w seat h) ≡ []
+  taken_in seat h = either (is_dropped seat.device.config h.dst) (Drop ∷ []) (local_or_forward w seat h (owner seat h.dst)) refl (forwarded seat h (owner seat h.dst))
 
-  none_at : (o : Option Port) (h : Header) → filter_map next_state (moves_at w o h) ≡ []
+  none_at : (o : Option Seat) (h : Header) → filter_map next_state (moves_at w o h) ≡ []
   none_at None h = refl
-  none_at (Some port) h = either (lets_in port h) (moves_in w port (coming_in port h)) (Drop ∷ []) (taken_in port (coming_in port h)) refl
+  none_at (Some seat) h = either (lets_in seat h) (moves_in w seat (coming_in seat h)) (Drop ∷ []) (taken_in seat (coming_in seat h)) refl
 
   -- no move leads on
   pub nowhere : (p : Place) (h : Header) → filter_map next_state (moves w p h) ≡ []
-  nowhere p h = none_at (port_at w p) h
+  nowhere p h = none_at (seat_at w p) h
 
   -- no walk has a move
   pub no_states : (n : ℕ) (s : State) → states_after w (suc n) s ≡ []

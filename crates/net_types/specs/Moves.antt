@@ -19,7 +19,7 @@ use Rattle.net_types.specs.declared.network.Segment.{Segment}
 use Rattle.net_types.specs.AccessLists.{verdict, passes}
 use Rattle.net_types.specs.Translation.{from_inside, from_outside}
 use Rattle.net_types.specs.Routes.{same_text, live_subnets, is_enabled, has_address, network_of, rib_of, hops}
-use Rattle.net_types.specs.World.{World, Port, port_in, port_at, port_named, segment_of, is_other, answers, is_silent}
+use Rattle.net_types.specs.World.{World, Seat, seat_in, seat_at, seat_named, segment_of, is_other, answers, is_silent}
 
 -- ---- lists and sides
 
@@ -44,12 +44,12 @@ is_outside Outside = true
 -- ---- arrival
 
 -- a packet is let in where the interface is IP-enabled and its input list passes it
-abbrev pub lets_in : Port → Header → Bool
-lets_in port h = is_enabled port.interface && passes_list port.device.config port.interface.input h
+abbrev pub lets_in : Seat → Header → Bool
+lets_in seat h = is_enabled seat.interface && passes_list seat.device.config seat.interface.input h
 
 -- at an outside interface the destination is translated, after the input list (IOS: NAT order of operation)
-abbrev pub coming_in : Port → Header → Header
-coming_in port h = if is_outside port.interface.side then from_outside port.device.config.nat h else h
+abbrev pub coming_in : Seat → Header → Header
+coming_in seat h = if is_outside seat.interface.side then from_outside seat.device.config.nat h else h
 
 -- multicast and reserved destinations, 224.0.0.0/4 and 240.0.0.0/4 (RFC 1112)
 abbrev pub is_reserved : ℕ → Bool
@@ -72,8 +72,8 @@ abbrev pub owns : ℕ → Interface → Bool
 owns a i = has_address a (live_subnets i)
 
 -- the first such interface of the device
-abbrev pub owner : Port → ℕ → Option Port
-owner port a = option_and_then (port_in port.device) (position (owns a) port.device.config.interfaces)
+abbrev pub owner : Seat → ℕ → Option Seat
+owner seat a = option_and_then (seat_in seat.device) (position (owns a) seat.device.config.interfaces)
 
 -- ---- sending
 
@@ -99,46 +99,46 @@ send w e a h (Some s) =
 -- ---- leaving
 
 -- from an inside to an outside interface the source is translated, after the lookup (IOS: NAT order of operation)
-abbrev pub going_out : Port → Port → Header → Header
-going_out port out h =
-    if is_inside port.interface.side && is_outside out.interface.side then from_inside port.device.config.nat h else h
+abbrev pub going_out : Seat → Seat → Header → Header
+going_out seat out h =
+    if is_inside seat.interface.side && is_outside out.interface.side then from_inside seat.device.config.nat h else h
 
 -- the output list sees the translated packet, and what it denies is lost after the TTL was looked at
-abbrev pub leave_with : World → Port → Header → ℕ → Port → Move
-leave_with w port h a out =
-    if passes_list port.device.config out.interface.output h then send w out.place a h (segment_of w out.place) else Lost
+abbrev pub leave_with : World → Seat → Header → ℕ → Seat → Move
+leave_with w seat h a out =
+    if passes_list seat.device.config out.interface.output h then send w out.place a h (segment_of w out.place) else Lost
 
-abbrev pub leave : World → Port → Header → ℕ → Port → Move
-leave w port h a out = leave_with w port (going_out port out h) a out
+abbrev pub leave : World → Seat → Header → ℕ → Seat → Move
+leave w seat h a out = leave_with w seat (going_out seat out h) a out
 
 -- an interface that the device doesn't have, or that has no number, loses the packet. No accepted configuration routes
 -- to one
-abbrev pub leave_if_any : World → Port → Header → ℕ → Option Port → Move
-leave_if_any w port h a None = Lost
-leave_if_any w port h a (Some out) = leave w port h a out
+abbrev pub leave_if_any : World → Seat → Header → ℕ → Option Seat → Move
+leave_if_any w seat h a None = Lost
+leave_if_any w seat h a (Some out) = leave w seat h a out
 
 -- what becomes of the packet by one choice of the lookup
-abbrev pub move_by : World → Port → Header → Hop → Move
-move_by w port h Discard = Drop
-move_by w port h (Out name a) = leave_if_any w port h a (port_named port.device name)
+abbrev pub move_by : World → Seat → Header → Hop → Move
+move_by w seat h Discard = Drop
+move_by w seat h (Out name a) = leave_if_any w seat h a (seat_named seat.device name)
 
 -- ---- all together
 
 -- a destination of the device itself is local there; any other is forwarded by each choice of its lookup
-abbrev pub local_or_forward : World → Port → Header → Option Port → List Move
-local_or_forward w port h (Some own) = Local own.place ∷ []
-local_or_forward w port h None = map (move_by w port h) (hops (rib_of port.device.config) h.dst)
+abbrev pub local_or_forward : World → Seat → Header → Option Seat → List Move
+local_or_forward w seat h (Some own) = Local own.place ∷ []
+local_or_forward w seat h None = map (move_by w seat h) (hops (rib_of seat.device.config) h.dst)
 
-abbrev pub moves_in : World → Port → Header → List Move
-moves_in w port h =
-    if is_dropped port.device.config h.dst then Drop ∷ [] else local_or_forward w port h (owner port h.dst)
+abbrev pub moves_in : World → Seat → Header → List Move
+moves_in w seat h =
+    if is_dropped seat.device.config h.dst then Drop ∷ [] else local_or_forward w seat h (owner seat h.dst)
 
 -- an absent place drops everything
-abbrev pub moves_at : World → Option Port → Header → List Move
+abbrev pub moves_at : World → Option Seat → Header → List Move
 moves_at w None h = Drop ∷ []
-moves_at w (Some port) h = if lets_in port h then moves_in w port (coming_in port h) else Drop ∷ []
+moves_at w (Some seat) h = if lets_in seat h then moves_in w seat (coming_in seat h) else Drop ∷ []
 
 -- all that may become of a packet with this header that arrives at this place, as a set: input list, translation from
 -- outside, drops, local, lookup, translation from inside, output list, sending (IOS: NAT order of operation)
 abbrev pub moves : World → Place → Header → List Move
-moves w p h = moves_at w (port_at w p) h
+moves w p h = moves_at w (seat_at w p) h

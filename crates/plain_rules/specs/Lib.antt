@@ -1,2 +1,1 @@
-pub mod Borrowed
 pub mod Outcomes

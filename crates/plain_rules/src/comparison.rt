@@ -2,12 +2,12 @@ ghost use Rattle.std.specs.Prelude.{◌≡◌, ◌≤◌, ℕ, IfOk};
 ghost use Rattle.hdr_bits.specs.HeaderBits.{header_of};
 ghost use Rattle.net_types.specs.Report.{affected, labels_if_other, pair_unless, same_label};
 ghost use Rattle.net_types.specs.Walks.{label};
-ghost use Rattle.plain_rules.specs.Borrowed.{world_of};
+ghost use Rattle.net_view.specs.Borrowed.{world_of};
 
-use crate::places::WorldRef;
 use crate::walks::label;
 use hdr_bits::Header;
 use net_types::{Label, NoMemory, Place};
+use net_view::WorldRef;
 use std::alloc::Global;
 
 /// The two labels of a header at an ingress, where they differ between the two networks. A contract names the header

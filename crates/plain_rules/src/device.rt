@@ -1,27 +1,23 @@
 ghost use Rattle.std.specs.Prelude.{◌≡◌, ◌&&◌, ◌==◌, [], ◌∷◌, IfOk, map, find, position, option_map};
 ghost use Rattle.std.specs.Option.{option_copied};
 ghost use Rattle.std.specs.List.{list_any};
-ghost use Rattle.net_types.specs.AccessLists.{passes};
-ghost use Rattle.net_types.specs.Moves.{list_named, passes_list, is_inside, is_outside, is_reserved};
+ghost use Rattle.net_types.specs.Moves.{passes_list, is_reserved};
 ghost use Rattle.net_types.specs.Moves.{is_broadcast, has_broadcast, is_dropped, owns, owner};
 ghost use Rattle.net_types.specs.Moves.{send_p2p, send_lan, send, going_out, coming_in, lets_in};
 ghost use Rattle.net_types.specs.Moves.{leave_with, leave, leave_if_any, move_by};
 ghost use Rattle.net_types.specs.Moves.{local_or_forward, moves_in, moves_at, moves};
-ghost use Rattle.net_types.specs.Routes.{same_text};
 ghost use Rattle.net_types.specs.World.{is_other, answers, is_silent};
-ghost use Rattle.plain_rules.specs.Borrowed.{world_of, port_of};
+ghost use Rattle.net_view.specs.Borrowed.{world_of, seat_of};
 
-use crate::access_lists::first_match;
-use crate::interfaces::{has_live_address, is_enabled, same_text};
 use crate::lookups::hops;
-use crate::places::{
-    PortRef, WorldRef, answers, is_other, is_silent, port_at, port_in, port_named, segment_of,
-};
+use crate::segments::{answers, is_other, is_silent, segment_of};
 use crate::static_routes::build;
-use crate::translation::{from_inside, from_outside};
 use hdr_bits::Header;
-use net_types::{
-    AccessList, Config, Hop, Interface, Move, NoMemory, Place, Segment, Side, Subnet, Text, Verdict,
+use header_rules::{first_match, from_inside, from_outside, passes};
+use net_types::{Config, Hop, Interface, Move, NoMemory, Place, Segment, Subnet, Text};
+use net_view::{
+    SeatRef, WorldRef, has_live_address, is_enabled, is_inside, is_outside, list_named, seat_at,
+    seat_in, seat_named,
 };
 use std::alloc::Global;
 
@@ -93,102 +89,64 @@ fn silent_end(w: WorldRef, address: u32, e: Place, ends: &[Place]) -> Option<Pla
     ends.iter().copied().find(|q| is_silent(w, address, e, *q))
 }
 
-fn list_named<'a>(config: &'a Config, name: &Option<Text>) -> Option<&'a AccessList>
-    ensures { option_copied result ≡ list_named config.now name.now }
-{
-    let Some(name) = name else {
-        return None;
-    };
-    find_list(config.lists.as_slice(), name.as_bytes())
-}
-
-fn find_list<'a>(lists: &'a [AccessList], name: &[u8]) -> Option<&'a AccessList>
-    ensures { option_copied result ≡ find (λ l. same_text l.name name.now) lists.now }
-{
-    lists.iter().find(|l| same_text(l.name.as_bytes(), name))
-}
-
-fn passes(verdict: Verdict) -> bool
-    ensures { result ≡ passes verdict }
-{
-    match verdict {
-        Verdict::Passed => true,
-        Verdict::Permit { sequence: _ } => true,
-        Verdict::Deny { sequence: _ } => false,
-        Verdict::DenyEnd => false,
-    }
-}
-
 fn passes_list(config: &Config, name: &Option<Text>, h: &Header) -> bool
     ensures { result ≡ passes_list config.now name.now h.now }
 {
     passes(first_match(list_named(config, name), h))
 }
 
-fn is_inside(side: Side) -> bool
-    ensures { result ≡ is_inside side }
+fn going_out(seat: SeatRef, out: SeatRef, h: &Header) -> Header
+    ensures { result ≡ going_out (seat_of seat.entry) (seat_of out.entry) h.now }
 {
-    side == Side::Inside
-}
-
-fn is_outside(side: Side) -> bool
-    ensures { result ≡ is_outside side }
-{
-    side == Side::Outside
-}
-
-fn going_out(port: PortRef, out: PortRef, h: &Header) -> Header
-    ensures { result ≡ going_out (port_of port.entry) (port_of out.entry) h.now }
-{
-    if is_inside(port.interface.side) && is_outside(out.interface.side) {
-        return from_inside(port.device.config.nat.as_slice(), h);
+    if is_inside(seat.interface.side) && is_outside(out.interface.side) {
+        return from_inside(seat.device.config.nat.as_slice(), h);
     }
     *h
 }
 
-fn leave_with(w: WorldRef, port: PortRef, h: &Header, address: u32, out: PortRef) -> Move
-    ensures { result ≡ leave_with (world_of w.entry) (port_of port.entry) h.now address (port_of out.entry) }
+fn leave_with(w: WorldRef, seat: SeatRef, h: &Header, address: u32, out: SeatRef) -> Move
+    ensures { result ≡ leave_with (world_of w.entry) (seat_of seat.entry) h.now address (seat_of out.entry) }
 {
-    if passes_list(&port.device.config, &out.interface.output, h) {
+    if passes_list(&seat.device.config, &out.interface.output, h) {
         return send(w, out.place, address, h, segment_of(w, out.place));
     }
     Move::Lost
 }
 
-fn leave(w: WorldRef, port: PortRef, h: &Header, address: u32, out: PortRef) -> Move
-    ensures { result ≡ leave (world_of w.entry) (port_of port.entry) h.now address (port_of out.entry) }
+fn leave(w: WorldRef, seat: SeatRef, h: &Header, address: u32, out: SeatRef) -> Move
+    ensures { result ≡ leave (world_of w.entry) (seat_of seat.entry) h.now address (seat_of out.entry) }
 {
-    let translated = going_out(port, out, h);
-    leave_with(w, port, &translated, address, out)
+    let translated = going_out(seat, out, h);
+    leave_with(w, seat, &translated, address, out)
 }
 
-fn leave_if_any(w: WorldRef, port: PortRef, h: &Header, address: u32, out: Option<PortRef>) -> Move
-    ensures { result ≡ leave_if_any (world_of w.entry) (port_of port.entry) h.now address (option_map port_of out.entry) }
+fn leave_if_any(w: WorldRef, seat: SeatRef, h: &Header, address: u32, out: Option<SeatRef>) -> Move
+    ensures { result ≡ leave_if_any (world_of w.entry) (seat_of seat.entry) h.now address (option_map seat_of out.entry) }
 {
     let Some(out) = out else {
         return Move::Lost;
     };
-    leave(w, port, h, address, out)
+    leave(w, seat, h, address, out)
 }
 
-fn move_by(w: WorldRef, port: PortRef, h: &Header, hop: &Hop) -> Move
-    ensures { result ≡ move_by (world_of w.entry) (port_of port.entry) h.now hop.now }
+fn move_by(w: WorldRef, seat: SeatRef, h: &Header, hop: &Hop) -> Move
+    ensures { result ≡ move_by (world_of w.entry) (seat_of seat.entry) h.now hop.now }
 {
     match hop {
         Hop::Discard => Move::Drop,
         Hop::Out { name, next } => {
-            leave_if_any(w, port, h, *next, port_named(port.device, name.as_bytes()))
+            leave_if_any(w, seat, h, *next, seat_named(seat.device, name.as_bytes()))
         }
     }
 }
 
-fn owner<'a>(port: PortRef<'a>, address: u32) -> Option<PortRef<'a>>
-    ensures { option_map port_of result ≡ owner (port_of port.entry) address }
+fn owner<'a>(seat: SeatRef<'a>, address: u32) -> Option<SeatRef<'a>>
+    ensures { option_map seat_of result ≡ owner (seat_of seat.entry) address }
 {
-    let Some(i) = position_owning(port.device.config.interfaces.as_slice(), address) else {
+    let Some(i) = position_owning(seat.device.config.interfaces.as_slice(), address) else {
         return None;
     };
-    port_in(port.device, i)
+    seat_in(seat.device, i)
 }
 
 fn position_owning(interfaces: &[Interface], address: u32) -> Option<usize>
@@ -245,15 +203,15 @@ fn is_dropped(config: &Config, address: u32) -> bool
 fn moves_by(
     alloc: Global,
     w: WorldRef,
-    port: PortRef,
+    seat: SeatRef,
     h: &Header,
     hops: &[Hop],
 ) -> Result<Vec<Move>, NoMemory>
-    ensures { IfOk result (λ answer. answer.items ≡ map (move_by (world_of w.entry) (port_of port.entry) h.now) hops.now) }
+    ensures { IfOk result (λ answer. answer.items ≡ map (move_by (world_of w.entry) (seat_of seat.entry) h.now) hops.now) }
 {
     let mut answer = Vec::new(alloc);
     for hop in hops {
-        answer.push(move_by(w, port, h, hop))?;
+        answer.push(move_by(w, seat, h, hop))?;
     }
     Ok(answer)
 }
@@ -269,53 +227,53 @@ fn just(alloc: Global, one: Move) -> Result<Vec<Move>, NoMemory>
 fn local_or_forward(
     alloc: Global,
     w: WorldRef,
-    port: PortRef,
+    seat: SeatRef,
     h: &Header,
-    own: Option<PortRef>,
+    own: Option<SeatRef>,
 ) -> Result<Vec<Move>, NoMemory>
-    ensures { IfOk result (λ answer. answer.items ≡ local_or_forward (world_of w.entry) (port_of port.entry) h.now (option_map port_of own.entry)) }
+    ensures { IfOk result (λ answer. answer.items ≡ local_or_forward (world_of w.entry) (seat_of seat.entry) h.now (option_map seat_of own.entry)) }
 {
     if let Some(own) = own {
         return just(alloc, Move::Local { place: own.place });
     }
-    let rib = build(alloc, &port.device.config)?;
+    let rib = build(alloc, &seat.device.config)?;
     let hops = hops(alloc, &rib, h.dst)?;
-    moves_by(alloc, w, port, h, &hops)
+    moves_by(alloc, w, seat, h, &hops)
 }
 
-fn moves_in(alloc: Global, w: WorldRef, port: PortRef, h: &Header) -> Result<Vec<Move>, NoMemory>
-    ensures { IfOk result (λ answer. answer.items ≡ moves_in (world_of w.entry) (port_of port.entry) h.now) }
+fn moves_in(alloc: Global, w: WorldRef, seat: SeatRef, h: &Header) -> Result<Vec<Move>, NoMemory>
+    ensures { IfOk result (λ answer. answer.items ≡ moves_in (world_of w.entry) (seat_of seat.entry) h.now) }
 {
-    if is_dropped(&port.device.config, h.dst) {
+    if is_dropped(&seat.device.config, h.dst) {
         return just(alloc, Move::Drop);
     }
-    local_or_forward(alloc, w, port, h, owner(port, h.dst))
+    local_or_forward(alloc, w, seat, h, owner(seat, h.dst))
 }
 
-fn coming_in(port: PortRef, h: &Header) -> Header
-    ensures { result ≡ coming_in (port_of port.entry) h.now }
+fn coming_in(seat: SeatRef, h: &Header) -> Header
+    ensures { result ≡ coming_in (seat_of seat.entry) h.now }
 {
-    if is_outside(port.interface.side) {
-        return from_outside(port.device.config.nat.as_slice(), h);
+    if is_outside(seat.interface.side) {
+        return from_outside(seat.device.config.nat.as_slice(), h);
     }
     *h
 }
 
-fn lets_in(port: PortRef, h: &Header) -> bool
-    ensures { result ≡ lets_in (port_of port.entry) h.now }
+fn lets_in(seat: SeatRef, h: &Header) -> bool
+    ensures { result ≡ lets_in (seat_of seat.entry) h.now }
 {
-    is_enabled(port.interface) && passes_list(&port.device.config, &port.interface.input, h)
+    is_enabled(seat.interface) && passes_list(&seat.device.config, &seat.interface.input, h)
 }
 
 /// All that may become of a packet with this header that arrives at this place.
 pub fn moves(alloc: Global, w: WorldRef, p: Place, h: &Header) -> Result<Vec<Move>, NoMemory>
     ensures { IfOk result (λ answer. answer.items ≡ moves (world_of w.entry) p h.now) }
 {
-    let Some(port) = port_at(w, p) else {
+    let Some(seat) = seat_at(w, p) else {
         return just(alloc, Move::Drop);
     };
-    if !lets_in(port, h) {
+    if !lets_in(seat, h) {
         return just(alloc, Move::Drop);
     }
-    moves_in(alloc, w, port, &coming_in(port, h))
+    moves_in(alloc, w, seat, &coming_in(seat, h))
 }

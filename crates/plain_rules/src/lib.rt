@@ -3,22 +3,15 @@
 //! are compared with.
 #![tactic(auto)]
 
-mod access_lists;
 mod comparison;
 mod device;
-mod interfaces;
 mod lookups;
-mod places;
+mod segments;
 mod static_routes;
-mod translation;
 mod walks;
 
-pub use access_lists::{first_match, matches};
 pub use comparison::affected;
 pub use device::moves;
-pub use interfaces::{holds, is_enabled, is_own};
 pub use lookups::hops;
-pub use places::{PortRef, WorldRef, port_at};
 pub use static_routes::{build, installed_routes, valid_routes};
-pub use translation::{from_inside, from_outside};
 pub use walks::{label, states_after};

@@ -3,8 +3,8 @@ ghost use Rattle.std.specs.List.{list_any};
 ghost use Rattle.net_types.specs.Routes.{route_holds, is_longer, is_longest, best, exit_hops};
 ghost use Rattle.net_types.specs.Routes.{or_discard, hops_within, hops};
 
-use crate::interfaces::holds;
 use net_types::{Duplicate, Hop, NoMemory, Rib, Route, RouteExit};
+use net_view::holds;
 use std::alloc::Global;
 
 /// The choices that a forwarding lookup gives for an address.
@@ -27,7 +27,7 @@ fn hops_within(alloc: Global, routes: &[Route], n: u64, address: u32) -> Result<
     for route in &best(alloc, routes, address)? {
         add_hops(alloc, routes, n - 1, address, &route.exit, &mut hops)?;
     }
-    Ok(or_discard(hops)?)
+    or_discard(hops)
 }
 
 // A drop where there is nothing.

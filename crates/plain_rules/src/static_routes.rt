@@ -1,14 +1,12 @@
-ghost use Rattle.std.specs.Prelude.{◌≡◌, ◌+◌, ◌++◌, List, IfOk, filter, flat_map, find, length};
-ghost use Rattle.std.specs.Option.{option_copied};
+ghost use Rattle.std.specs.Prelude.{◌≡◌, ◌+◌, List, IfOk, filter, length};
 ghost use Rattle.std.specs.List.{list_any};
-ghost use Rattle.net_types.specs.Routes.{same_text, network_of, connected_by, live_subnets, connected};
 ghost use Rattle.net_types.specs.Routes.{all_routes, next_is_own, is_usable, interface_named};
 ghost use Rattle.net_types.specs.Routes.{is_enabled_if_any, is_anchored, leads_into, route_holds};
 ghost use Rattle.net_types.specs.Routes.{stands_on, valid_within, valid, beats, is_unbeaten};
 ghost use Rattle.net_types.specs.Routes.{installed, rib_of};
 
-use crate::interfaces::{holds, is_enabled, is_own, same_text};
-use net_types::{Config, Duplicate, Interface, List, NoMemory, Rib, Route, RouteExit, Subnet};
+use net_types::{Config, Duplicate, List, NoMemory, Rib, Route, RouteExit};
+use net_view::{every_route, holds, interface_named, is_enabled, is_own};
 use std::alloc::Global;
 
 /// The installed routes of a router, and the number of all its routes.
@@ -34,62 +32,6 @@ pub fn valid_routes(alloc: Global, config: &Config) -> Result<Vec<Route>, NoMemo
 {
     let routes = every_route(alloc, config)?;
     valid_among(alloc, config, &routes)
-}
-
-// The routes that are written, and those of the connected subnets.
-fn every_route(alloc: Global, config: &Config) -> Result<Vec<Route>, NoMemory>
-    ensures { IfOk result (λ routes. routes.items ≡ all_routes config.now) }
-{
-    let mut routes = config.routes.copy_items(alloc)?.into_vec();
-    for interface in config.interfaces.as_slice() {
-        add_connected(alloc, interface, &mut routes)?;
-    }
-    Ok(routes)
-}
-
-// Adds the connected routes of an interface.
-fn add_connected(
-    alloc: Global,
-    interface: &Interface,
-    routes: &mut Vec<Route>,
-) -> Result<(), NoMemory>
-    ensures { IfOk result (λ _. routes.new.items ≡ routes.old.items ++ connected interface.now) }
-{
-    if interface.shut {
-        return Ok(());
-    }
-    if let Some(subnet) = &interface.primary {
-        routes.push(connected_route(alloc, interface, subnet)?)?;
-    }
-    for subnet in interface.secondary.as_slice() {
-        routes.push(connected_route(alloc, interface, subnet)?)?;
-    }
-    Ok(())
-}
-
-fn connected_route(alloc: Global, interface: &Interface, subnet: &Subnet) -> Result<Route, NoMemory>
-    ensures { IfOk result (λ route. route ≡ connected_by interface.now subnet.now) }
-{
-    Ok(Route {
-        prefix: network(subnet),
-        exit: RouteExit::Port {
-            name: interface.name.copy(alloc)?,
-        },
-        distance: 0,
-    })
-}
-
-// The subnet with its least address.
-fn network(subnet: &Subnet) -> Subnet
-    ensures { result ≡ network_of subnet.now }
-{
-    let address = u64::from(subnet.address);
-    let size = 1u64 << (32 - u32::from(subnet.length));
-    let least = address - address % size;
-    Subnet {
-        address: least as u32,
-        length: subnet.length,
-    }
 }
 
 // The valid ones, after as many steps as there are routes.
@@ -164,16 +106,6 @@ fn has_enabled(config: &Config, name: &[u8]) -> bool
         None => false,
         Some(interface) => is_enabled(interface),
     }
-}
-
-fn interface_named<'a>(config: &'a Config, name: &[u8]) -> Option<&'a Interface>
-    ensures { option_copied result ≡ interface_named config.now name.now }
-{
-    config
-        .interfaces
-        .as_slice()
-        .iter()
-        .find(|i| same_text(i.name.as_bytes(), name))
 }
 
 fn leads_into(before: &[Route], exit: &RouteExit) -> bool

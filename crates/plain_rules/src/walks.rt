@@ -4,13 +4,13 @@ ghost use Rattle.net_types.specs.Walks.{next_state, next_states, states_after, e
 ghost use Rattle.net_types.specs.Walks.{last_end_by, changed, outcome_of, ends_at, ends_after};
 ghost use Rattle.net_types.specs.Walks.{ends, exit, label};
 ghost use Rattle.hdr_bits.specs.declared.header.Header.{Header};
-ghost use Rattle.plain_rules.specs.Borrowed.{world_of};
+ghost use Rattle.net_view.specs.Borrowed.{world_of};
 ghost use Rattle.plain_rules.specs.Outcomes.{outcome_by};
 
 use crate::device::moves;
-use crate::places::WorldRef;
 use hdr_bits::Header;
 use net_types::{Label, Move, NoMemory, Outcome, Place, State};
+use net_view::WorldRef;
 use std::alloc::Global;
 
 /// The label of a header that enters at a place: all outcomes of its walks under the TTL.

@@ -7,7 +7,8 @@ use Rattle.std.proofs.lemmas.List.Elements.{Contains-append_cases, filter_map-ap
 use Rattle.std.proofs.lemmas.Option.{slice_get_within, slice_get_cases}
 use Rattle.net_types.proofs.Members.{in_none, in_flat_map}
 use Rattle.transfer_rel.specs.CubeMoves.{SameSet}
-use Rattle.region_walk.specs.Lists.{Extends, AddsFrom, items_at, AreNumbersOf}
+use Rattle.hdr_bits.specs.Lists.{Extends}
+use Rattle.region_walk.specs.Lists.{AddsFrom, items_at, AreNumbersOf}
 use Rattle.region_walk.proofs.SetLemmas.{map_joined, all_at, all_from, same_trans, same_if, same_filter_map}
 
 module _ {A : Type 0} where

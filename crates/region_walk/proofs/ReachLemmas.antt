@@ -19,10 +19,12 @@ use Rattle.net_types.proofs.Members.{in_one, in_flat_map, in_filter_map}
 use Rattle.transfer_rel.specs.declared.moves.Arrivals.{Arrivals}
 use Rattle.transfer_rel.specs.declared.moves.Agreement.{Agreement}
 use Rattle.transfer_rel.specs.declared.moves.Agreement.TheVariants as agreement
-use Rattle.transfer_rel.specs.CubeMoves.{SameSet, Worlds, OfAgreement, ArrivesIn, GoWithin}
+use Rattle.net_forms.specs.Worlds.{Worlds}
+use Rattle.transfer_rel.specs.CubeMoves.{SameSet, OfAgreement, ArrivesIn, GoWithin}
 use Rattle.region_walk.specs.declared.reach.Course.{Course}
 use Rattle.region_walk.specs.declared.reach.Course.TheVariants as course
-use Rattle.region_walk.specs.Lists.{Extends, AddsFrom}
+use Rattle.hdr_bits.specs.Lists.{Extends}
+use Rattle.region_walk.specs.Lists.{AddsFrom}
 use Rattle.region_walk.specs.Answers.{HaveSameLabels}
 use Rattle.region_walk.specs.Courses.{OfWhole}
 use Rattle.region_walk.specs.Reached.{IsCoveredBy, LeavesOpen, IsClear, OfCourse, OfFirst, joined, sight, OfSight}

@@ -21,7 +21,8 @@ use Rattle.transfer_rel.specs.CubeMoves.{SameSet}
 use Rattle.region_walk.specs.declared.spot.Spot.{Spot}
 use Rattle.region_walk.specs.declared.visit.Visit.{Visit}
 use Rattle.region_walk.specs.declared.level.Level.{Level}
-use Rattle.region_walk.specs.Lists.{Extends, AddsFrom, items_at, AreNumbersOf}
+use Rattle.hdr_bits.specs.Lists.{Extends}
+use Rattle.region_walk.specs.Lists.{AddsFrom, items_at, AreNumbersOf}
 use Rattle.region_walk.specs.Steps.{GrowsWith}
 use Rattle.region_walk.specs.Spots.{IsBase, IsSpot, spot_at, state_of}
 use Rattle.region_walk.specs.Visits.{IsVisit, IsLevel, AreAfter, spot_of, next_spots, next_numbers, states_at, visits_at, states_below, visit_outcomes, outcomes_below, IsGraph, AreVisited, AreDone, AreStates}

@@ -7,7 +7,7 @@ use Rattle.hdr_bits.specs.CubeBits.{IsIn}
 use Rattle.net_types.specs.declared.network.Place.{Place}
 use Rattle.net_types.specs.World.{World}
 use Rattle.net_types.specs.Walks.{label}
-use Rattle.transfer_rel.specs.CubeMoves.{Worlds}
+use Rattle.net_forms.specs.Worlds.{Worlds}
 use Rattle.region_walk.specs.declared.regions.Explored.{Explored}
 use Rattle.region_walk.specs.declared.regions.Explored.TheVariants as explored
 use Rattle.region_walk.specs.declared.shortcut.Touch.{Touch}

@@ -1,11 +1,6 @@
 -- Lists that grow, and lists of numbers that stand for items of another list.
 use Rattle.std.specs.Prelude.{◌≡◌, ℕ, List, ◌++◌, Some, map, filter_map, slice_get, Contains}
 
--- items were added at the end
-pub record Extends {A : Type 0} (old new : List A) : Type 0 where
-  pub more : List A
-  pub added : new ≡ old ++ more
-
 -- only items of a list were added at the end
 pub record AddsFrom {A : Type 0} (items old new : List A) : Type 0 where
   pub more : List A

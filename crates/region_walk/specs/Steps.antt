@@ -1,7 +1,8 @@
 -- What one step of the walk adds.
 use Rattle.std.specs.Prelude.{◌≡◌, ℕ, List, ◌++◌}
 use Rattle.std.specs.List.{AllByRecursion}
-use Rattle.region_walk.specs.Lists.{Extends, AddsFrom, AreNumbersOf}
+use Rattle.hdr_bits.specs.Lists.{Extends}
+use Rattle.region_walk.specs.Lists.{AddsFrom, AreNumbersOf}
 
 -- items were added where they weren't there, and their numbers
 pub record AddsNumbers {A : Type 0} (items old new : List A) (before after : List ℕ) : Type 0 where

@@ -21,7 +21,7 @@ pub struct Graph<'a> {
 impl<'a> Model for Graph<'a> {
     ghost use Rattle.region_walk.specs.Region.{Region};
     ghost use Rattle.region_walk.specs.Visits.{IsGraph};
-    ghost use Rattle.transfer_rel.specs.CubeMoves.{world_in};
+    ghost use Rattle.net_forms.specs.Worlds.{world_in};
 
     ghost Value = { Region };
 
@@ -37,7 +37,7 @@ impl<'a> Graph<'a> {
     ghost use Rattle.hdr_bits.specs.CubeBits.{IsIn};
     ghost use Rattle.net_types.specs.Walks.{label};
     ghost use Rattle.region_walk.specs.Visits.{IsGraph};
-    ghost use Rattle.transfer_rel.specs.CubeMoves.{world_in};
+    ghost use Rattle.net_forms.specs.Worlds.{world_in};
 
     /// The graph of these visits and levels.
     pub(crate) fn new(

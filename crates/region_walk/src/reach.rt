@@ -8,29 +8,29 @@ ghost use Rattle.hdr_bits.specs.HeaderBits.{number};
 ghost use Rattle.hdr_bits.specs.CubeBits.{IsIn};
 ghost use Rattle.net_types.specs.declared.network.Place.{Place};
 ghost use Rattle.transfer_rel.specs.CubeMoves.{ArrivesIn};
-ghost use Rattle.region_walk.specs.Lists.{AddsFrom, Extends};
+ghost use Rattle.hdr_bits.specs.Lists.{Extends};
+ghost use Rattle.region_walk.specs.Lists.{AddsFrom};
 ghost use Rattle.region_walk.specs.Reached.{OfCourse, joined, sight, LeavesOpen, IsCoveredBy};
 
 use cube_alg::covers;
 use indexmap::IndexMap;
 use net_types::{NoMemory, Place};
 use std::alloc::Global;
-use transfer_rel::{Agreement, Arrivals, NextCubes, Prepared, Version};
+use transfer_rel::{Agreement, Arrivals, NextCubes, Prepared, Version, agree_on, next_cubes};
 
 /// What is known of some arrivals.
 #[derive(Clone, Copy, Debug, PartialEq, Eq)]
 pub(crate) enum Course {
     /// The two networks do the same with all of them.
     Clear,
-    /// Nothing is known before this place, which they leave open, is fixed.
-    Cut { place: u32 },
+    /// Nothing is known before this bit, which is open in them, is fixed.
+    Cut { bit: u32 },
     /// The networks may do other things with any of them.
     Differs,
 }
 
-/// What is known of arrivals of two kinds. Of two cuts the one at the higher place comes first: places of prefixes
-/// stand before all others, so cuts follow prefixes, and a prefix that another place cuts again is
-/// walked in few parts.
+/// What is known of arrivals of two kinds. Of two cuts the one at the higher bit comes first: bits of prefixes stand
+/// before all others, so cuts follow prefixes, and a prefix that another bit cuts again is walked in few parts.
 pub(crate) fn joined(first: Course, second: Course) -> Course
     ensures { result ≡ joined first second }
 {
@@ -39,9 +39,7 @@ pub(crate) fn joined(first: Course, second: Course) -> Course
         (Course::Differs, _) => Course::Differs,
         (Course::Cut { .. }, Course::Clear) => first,
         (Course::Cut { .. }, Course::Differs) => Course::Differs,
-        (Course::Cut { place: j }, Course::Cut { place: k }) => {
-            if k < j { second } else { first }
-        }
+        (Course::Cut { bit: j }, Course::Cut { bit: k }) => { if k < j { second } else { first } }
     }
 }
 
@@ -57,12 +55,12 @@ pub(crate) fn look_at(
     ensures extends { OnOk result (Extends reached.old.items reached.new.items) }
     ensures wide { OnOk result ((c : Cube) → LeavesOpen c one.now → AllByRecursion (LeavesOpen c) reached.old.items → AllByRecursion (LeavesOpen c) reached.new.items) }
 {
-    let sight = sight_of(prepared.agree_on(alloc, one.place, &one.cube)?);
+    let sight = sight_of(agree_on(alloc, prepared, one.place, &one.cube)?);
     if sight == Course::Differs {
         return Ok(sight);
     }
-    match prepared.next_cubes(alloc, Version::Old, one.place, &one.cube)? {
-        NextCubes::Divides { place } => Ok(joined(sight, Course::Cut { place })),
+    match next_cubes(alloc, prepared, Version::Old, one.place, &one.cube)? {
+        NextCubes::Divides { bit } => Ok(joined(sight, Course::Cut { bit })),
         NextCubes::Within { arrivals } => {
             add_all(alloc, &arrivals, reached, index)?;
             Ok(sight)
@@ -76,7 +74,7 @@ fn sight_of(agreement: Agreement) -> Course
 {
     match agreement {
         Agreement::Same => Course::Clear,
-        Agreement::Divides { place } => Course::Cut { place },
+        Agreement::Divides { bit } => Course::Cut { bit },
         Agreement::Other => Course::Differs,
     }
 }

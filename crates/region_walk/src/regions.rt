@@ -1,13 +1,13 @@
-ghost use Rattle.std.specs.Prelude.{◌<◌, IfOk};
-ghost use Rattle.hdr_bits.specs.CubeBits.{IsStar};
+ghost use Rattle.std.specs.Prelude.{IfOk};
+ghost use Rattle.cube_alg.specs.OnCubes.{IsOpen};
 ghost use Rattle.net_types.specs.World.{World};
 ghost use Rattle.region_walk.specs.Region.{AreHalves};
 ghost use Rattle.region_walk.specs.Answers.{OfExplored};
-ghost use Rattle.transfer_rel.specs.CubeMoves.{world_in};
+ghost use Rattle.net_forms.specs.Worlds.{world_in};
 
 use crate::Graph;
-use crate::walk::{Walked, walk};
-use cube_alg::split;
+use crate::walk::walk;
+use cube_alg::{OnCube, split};
 use hdr_bits::Cube;
 use net_types::{NoMemory, Place};
 use std::alloc::Global;
@@ -18,7 +18,7 @@ use transfer_rel::{Prepared, Version};
 pub enum Explored<'a> {
     /// All its headers walk alike.
     Whole { graph: Graph<'a> },
-    /// Some device on the way looks at a bit that the region leaves open: these are the halves of the region by that bit.
+    /// Some device on the way looks at a bit that is open in the region: these are the halves of the region by that bit.
     Halves { low: Cube, high: Cube },
 }
 
@@ -33,21 +33,27 @@ pub fn explore<'a>(
     ensures { IfOk result (λ answer. OfExplored (world_in prepared.now version) place cube.now answer) }
 {
     match walk(alloc, prepared, version, place, cube)? {
-        Walked::Divides { place: k } => {
-            let (low, high) = halves(cube, k);
+        OnCube::Divides { bit } => {
+            let (low, high) = halves(cube, bit);
             Ok(Explored::Halves { low, high })
         }
-        Walked::Whole { visits, levels } => Ok(Explored::Whole {
-            graph: Graph::new(prepared, version, place, *cube, visits, levels),
+        OnCube::All { answer } => Ok(Explored::Whole {
+            graph: Graph::new(
+                prepared,
+                version,
+                place,
+                *cube,
+                answer.visits,
+                answer.levels,
+            ),
         }),
     }
 }
 
-/// The halves of the cube by a place that it leaves open.
-pub(crate) fn halves(cube: &Cube, place: u32) -> (Cube, Cube)
-    requires within { place < 112 }
-    requires star { IsStar cube.now place }
+/// The halves of the cube by a bit that is open in it.
+pub(crate) fn halves(cube: &Cube, bit: u32) -> (Cube, Cube)
+    requires { IsOpen cube.now bit }
     ensures { AreHalves cube.now result.0 result.1 }
 {
-    split(cube, place)
+    split(cube, bit)
 }

@@ -1,7 +1,7 @@
 ghost use Rattle.std.specs.Prelude.{◌≡◌, ◌<◌, IfOk};
 ghost use Rattle.hdr_bits.specs.CubeBits.{IsStar};
 ghost use Rattle.net_types.specs.declared.network.Place.{Place};
-ghost use Rattle.transfer_rel.specs.CubeMoves.{Worlds};
+ghost use Rattle.net_forms.specs.Worlds.{Worlds};
 ghost use Rattle.region_walk.specs.Answers.{HaveSameLabels, OfTouch};
 ghost use Rattle.region_walk.specs.Courses.{OfWhole};
 ghost use Rattle.region_walk.specs.declared.reach.Course.TheVariants.{Clear};
@@ -27,7 +27,7 @@ pub enum Touch {
 
 /// Whether the headers of the cube that enter at the place can reach a difference of the two networks.
 ///
-/// Where some of them can only be told apart by places that the cube leaves open, all other arrivals are looked at
+/// Where some of them can only be told apart by bits that are open in the cube, all other arrivals are looked at
 /// first: a difference for all of a region isn't cut in vain, and of all cuts the highest is answered.
 pub fn touch_of(
     alloc: Global,
@@ -64,8 +64,8 @@ fn touch_by(cube: &Cube, course: Course) -> Touch
 {
     match course {
         Course::Clear => Touch::Untouched,
-        Course::Cut { place } => {
-            let (low, high) = halves(cube, place);
+        Course::Cut { bit } => {
+            let (low, high) = halves(cube, bit);
             Touch::Halves { low, high }
         }
         Course::Differs => Touch::Perhaps,

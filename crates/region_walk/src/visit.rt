@@ -2,19 +2,19 @@
 
 ghost use Rattle.std.specs.Prelude.{◌≡◌, ◌∷◌, [], ◌++◌, ℕ, Some, IfOk, OnOk, map, filter_map, slice_get};
 ghost use Rattle.std.specs.List.{AllByRecursion};
-ghost use Rattle.transfer_rel.specs.CubeMoves.{world_in};
+ghost use Rattle.net_forms.specs.Worlds.{world_in};
 ghost use Rattle.region_walk.specs.Lists.{AddsFrom, AreNumbersOf};
 ghost use Rattle.region_walk.specs.Spots.{IsBase, IsSpot, relative, next_spot};
 ghost use Rattle.region_walk.specs.Seen.{OfSeen};
 ghost use Rattle.region_walk.specs.Steps.{AddsNumbers, GrowsWith};
 
 use crate::spot::{Spot, next_spot, relative};
-use cube_alg::Stamp;
+use cube_alg::{OnCube, Stamp};
 use hdr_bits::{Cube, Header};
 use indexmap::IndexSet;
 use net_types::{List, NoMemory};
 use std::alloc::Global;
-use transfer_rel::{CubeMoves, Prepared, StampMove, Version};
+use transfer_rel::{Prepared, StampMove, Version, moves_on};
 
 /// A spot with the moves of the headers there, told from the start of their walks, and the numbers of the spots to
 /// which they go on.
@@ -25,14 +25,8 @@ pub(crate) struct Visit {
     pub next: List<usize>,
 }
 
-/// A visit, or a place that the region leaves open and the device looks at.
-#[derive(Drop)]
-pub(crate) enum Seen {
-    One { visit: Visit },
-    Divides { place: u32 },
-}
-
-/// The visit of a spot. The spots to which it goes on are added.
+/// The visit of a spot, or a bit that is open in the region and at which the device looks. The spots to which it goes on
+/// are added.
 pub(crate) fn visit_at(
     alloc: Global,
     prepared: &Prepared,
@@ -41,7 +35,7 @@ pub(crate) fn visit_at(
     first: &Header,
     spot: &Spot,
     spots: &mut IndexSet<Spot>,
-) -> Result<Seen, NoMemory>
+) -> Result<OnCube<Visit>, NoMemory>
     requires base { IsBase cube.now first.now }
     requires spot { IsSpot cube.now first.now spot.now }
     requires spots { AllByRecursion (IsSpot cube.now first.now) spots.now.keys }
@@ -49,13 +43,13 @@ pub(crate) fn visit_at(
     ensures grows { OnOk result (GrowsWith (IsSpot cube.now first.now) spots.old.keys spots.new.keys) }
 {
     let stamp = spot.stamp();
-    match prepared.moves_on(alloc, version, spot.place, &stamp.forth(cube))? {
-        CubeMoves::Divides { place } => Ok(Seen::Divides { place }),
-        CubeMoves::Same { moves } => {
+    match moves_on(alloc, prepared, version, spot.place, &stamp.forth(cube))? {
+        OnCube::Divides { bit } => Ok(OnCube::Divides { bit }),
+        OnCube::All { answer: moves } => {
             let moves = relative_moves(alloc, first, &stamp, moves.as_slice())?;
             let next = numbers_of(alloc, &moves, spots)?;
-            Ok(Seen::One {
-                visit: Visit {
+            Ok(OnCube::All {
+                answer: Visit {
                     spot: *spot,
                     moves: List::new(moves),
                     next: List::new(next),
@@ -112,7 +106,7 @@ fn add_number_of(
     Ok(())
 }
 
-// The number of a spot, which is added where it isn't there.
+/// The number of a spot, which is added where it isn't there.
 pub(crate) fn number_of(spot: Spot, spots: &mut IndexSet<Spot>) -> Result<usize, NoMemory>
     ensures adds { OnOk result (AddsFrom (spot ∷ []) spots.old.keys spots.new.keys) }
     ensures number { IfOk result (λ number. slice_get spots.new.keys number ≡ Some spot) }

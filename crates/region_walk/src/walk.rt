@@ -1,49 +1,45 @@
 //! All walks of the headers of a region, level by level.
 
 ghost use Rattle.std.specs.Prelude.{◌≡◌, ◌∷◌, [], IfOk, OnOk};
-ghost use Rattle.transfer_rel.specs.CubeMoves.{world_in};
-ghost use Rattle.region_walk.specs.Lists.{Extends};
+ghost use Rattle.net_forms.specs.Worlds.{world_in};
+ghost use Rattle.hdr_bits.specs.Lists.{Extends};
 ghost use Rattle.region_walk.specs.Spots.{IsBase, IsSpot};
 ghost use Rattle.region_walk.specs.Visits.{AreVisited};
 ghost use Rattle.region_walk.specs.Seen.{OfSweep, OfWalked};
 
 use crate::level::{Level, next_states};
 use crate::spot::Spot;
-use crate::visit::{Seen, Visit, number_of, visit_at};
-use cube_alg::Stamp;
+use crate::visit::{Visit, number_of, visit_at};
+use cube_alg::{OnCube, Stamp};
 use hdr_bits::{Cube, Header};
 use indexmap::IndexSet;
 use net_types::{List, NoMemory, Place};
 use std::alloc::Global;
 use transfer_rel::{Prepared, Version};
 
-/// What a walk over all new spots finds: a visit of each, or a place that the region leaves open.
+/// What a walk over all new spots finds: a visit of each, or a bit that is open in the region.
 #[derive(Drop)]
 pub(crate) enum Sweep {
     All,
-    Divides { place: u32 },
+    Divides { bit: u32 },
 }
 
-/// The visits of a region with its levels, or a place that it leaves open and some device on the way looks at.
+/// The visits of a region, with its levels.
 #[derive(Drop)]
-pub(crate) enum Walked {
-    Whole {
-        visits: Vec<Visit>,
-        levels: Vec<Level>,
-    },
-    Divides {
-        place: u32,
-    },
+pub(crate) struct Walked {
+    pub visits: Vec<Visit>,
+    pub levels: Vec<Level>,
 }
 
-/// Walks all headers of the cube from the place, by at most 254 moves.
+/// Walks all headers of the cube from the place, by at most 254 moves; or answers a bit that is open in the cube and at
+/// which some device on the way looks.
 pub(crate) fn walk(
     alloc: Global,
     prepared: &Prepared,
     version: Version,
     place: Place,
     cube: &Cube,
-) -> Result<Walked, NoMemory>
+) -> Result<OnCube<Walked>, NoMemory>
     ensures { IfOk result (λ answer. OfWalked (world_in prepared.now version) place cube.now answer) }
 {
     let first = cube.least();
@@ -62,7 +58,7 @@ pub(crate) fn walk(
             &mut spots,
             &mut visits,
         )? {
-            Sweep::Divides { place } => return Ok(Walked::Divides { place }),
+            Sweep::Divides { bit } => return Ok(OnCube::Divides { bit }),
             Sweep::All => {}
         }
         let now = states;
@@ -71,10 +67,14 @@ pub(crate) fn walk(
             states: List::new(now),
         })?;
         if states.len() == 0 {
-            return Ok(Walked::Whole { visits, levels });
+            return Ok(OnCube::All {
+                answer: Walked { visits, levels },
+            });
         }
     }
-    Ok(Walked::Whole { visits, levels })
+    Ok(OnCube::All {
+        answer: Walked { visits, levels },
+    })
 }
 
 // Visits all spots that have no visit. They are those behind the last visit, since spots have numbers in the order in
@@ -100,8 +100,8 @@ fn visit_new(
         };
         let spot = *spot;
         match visit_at(alloc, prepared, version, cube, first, &spot, spots)? {
-            Seen::Divides { place } => return Ok(Sweep::Divides { place }),
-            Seen::One { visit } => visits.push(visit)?,
+            OnCube::Divides { bit } => return Ok(Sweep::Divides { bit }),
+            OnCube::All { answer: visit } => visits.push(visit)?,
         }
     }
     Ok(Sweep::All)

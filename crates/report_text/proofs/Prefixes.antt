@@ -6,7 +6,7 @@ use Rattle.std.proofs.lemmas.Bool.{eqb-true, eq-eqb, cases_order, false_from_ne_
 use Rattle.std.proofs.lemmas.Nat.Bits.{bit_at-trailing_zeros, bit_at_mask_inside, bit_at_mask_below}
 use Rattle.report_text.specs.FieldText.{prefix_mask, prefix_length}
 
--- two places are one, where each is the lowest with a 1
+-- two bits are one, where each is the lowest that is 1
 settled : (t m x y : ℕ) → (t < m → x ≡ 0) → x ≡ 1 → (m < t → y ≡ 0) → y ≡ 1 → t ≡ m
 settled t m x y below at above inside =
     elim (cases_order t m) [

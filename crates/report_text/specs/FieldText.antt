@@ -14,40 +14,40 @@ address_text a =
     ++ codes "." ++ decimal (a / 2 ^ 8 % 2 ^ 8)
     ++ codes "." ++ decimal (a % 2 ^ 8)
 
--- a place: `*` where it isn't fixed, and else its digit
+-- a bit: `*` where it isn't fixed, and else its digit
 abbrev pub digit_text : ℕ → ℕ → List ℕ
 digit_text fixed bit = if fixed == 0 then codes "*" else decimal bit
 
--- the lowest `width` places, the most significant one first
+-- the lowest `width` bits, the most significant one first
 unfoldable pub ternary_text : ℕ → ℕ → ℕ → List ℕ
 ternary_text zero fixed bits = []
 ternary_text (suc k) fixed bits = digit_text (bit_at fixed k) (bit_at bits k) ++ ternary_text k fixed bits
 
--- the mask of the first `length` of 32 places
+-- the mask of the first `length` of 32 bits
 abbrev pub prefix_mask : ℕ → ℕ
 prefix_mask length = 2 ^ 32 - 2 ^ (32 - length)
 
--- how long the prefix is, 1 to 31, whose places are the fixed ones, if there is one
+-- how long the prefix is, 1 to 31, whose bits are the fixed ones, if there is one
 unfoldable pub prefix_length : ℕ → Option ℕ
 prefix_length fixed = find (λ length. prefix_mask length == fixed) (range_with_len 1 31)
 
--- an address of which some places are fixed and some are not, by the length of the prefix if it is one
+-- an address of which some bits are fixed and some are not, by the length of the prefix if it is one
 abbrev pub partial_text : Option ℕ → ℕ → ℕ → List ℕ
 partial_text (Some length) fixed bits = address_text bits ++ codes "/" ++ decimal length
 partial_text None fixed bits = ternary_text 32 fixed bits
 
--- a field that is an address, by its fixed places and the digits at those: `*`, an address, `A/len` or ternary digits
+-- a field that is an address, by its fixed bits and the digits at those: `*`, an address, `A/len` or ternary digits
 unfoldable pub address_field_text : ℕ → ℕ → List ℕ
 address_field_text fixed bits =
     if fixed == 0 then codes "*"
     else (if fixed == 2 ^ 32 - 1 then address_text bits else partial_text (prefix_length fixed) fixed bits)
 
--- a field that is a number of `width` places, likewise: `*`, the number or ternary digits
+-- a field that is a number of `width` bits, likewise: `*`, the number or ternary digits
 unfoldable pub number_field_text : ℕ → ℕ → ℕ → List ℕ
 number_field_text width fixed bits =
     if fixed == 0 then codes "*" else (if fixed == 2 ^ width - 1 then decimal bits else ternary_text width fixed bits)
 
--- the six fields of a cube, each behind its name, by their fixed places and the digits at those
+-- the six fields of a cube, each behind its name, by their fixed bits and the digits at those
 unfoldable pub fields_text : Header → Header → List ℕ
 fields_text fixed bits =
     codes "dst " ++ address_field_text fixed.dst bits.dst
@@ -61,6 +61,6 @@ fields_text fixed bits =
 unfoldable pub cube_text : Cube → List ℕ
 cube_text c = fields_text (header_of c.fixed) (header_of c.bits)
 
--- a header: as the cube of itself alone, where each of the 112 places is fixed
+-- a header: as the cube of itself alone, where each of the 112 bits is fixed
 unfoldable pub header_text : Header → List ℕ
 header_text h = fields_text (header_of (2 ^ 112 - 1)) h

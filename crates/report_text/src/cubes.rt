@@ -8,9 +8,9 @@ use std::alloc::Global;
 
 /// A cube as text: `dst F src F proto F dport F sport F flags F`.
 ///
-/// A field `F` of which no place is fixed is `*`. One of which each place is fixed is a dotted address (`dst`, `src`)
-/// or a decimal number. An address of which the first `len` places are fixed, and no other one, is `A/len`, the notation
-/// of RFC 4632. Each other field is a digit for each of its places, 0, 1 or `*`, the most significant one first.
+/// A field `F` of which no bit is fixed is `*`. One of which each bit is fixed is a dotted address (`dst`, `src`)
+/// or a decimal number. An address of which the first `len` bits are fixed, and no other one, is `A/len`, the notation
+/// of RFC 4632. Each other field is a digit for each of its bits, 0, 1 or `*`, the most significant one first.
 pub fn cube_bytes(alloc: Global, c: &Cube) -> Result<Vec<u8>, NoMemory>
     ensures { IfOk result (λ text. text.items ≡ cube_text c.now) }
 {
@@ -29,7 +29,7 @@ pub fn header_bytes(alloc: Global, h: &Header) -> Result<Vec<u8>, NoMemory>
     Ok(text)
 }
 
-// The mask of each field of which all places are fixed.
+// The mask of each field of which all bits are fixed.
 const EVERY_PLACE: Header = Header {
     dst: u32::MAX,
     src: u32::MAX,
@@ -44,12 +44,12 @@ pub(crate) fn append_cube(out: &mut Vec<u8>, c: &Cube) -> Result<(), NoMemory>
     ensures { OnOk result (out.new.items ≡ out.old.items ++ cube_text c.now) }
 {
     let (Some(fixed), Some(bits)) = (Header::from_bits(c.fixed), Header::from_bits(c.bits)) else {
-        unreachable!("a cube has 112 places");
+        unreachable!("a cube has 112 bits");
     };
     append_fields(out, &fixed, &bits)
 }
 
-// The fields of a cube with these fixed places, and these digits at them.
+// The fields of a cube with these fixed bits, and these digits at them.
 #[tactic(auto, unfolding(crate::specs::FieldText::fields_text))]
 fn append_fields(out: &mut Vec<u8>, fixed: &Header, bits: &Header) -> Result<(), NoMemory>
     ensures { OnOk result (out.new.items ≡ out.old.items ++ fields_text fixed.now bits.now) }

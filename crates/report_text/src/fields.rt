@@ -67,7 +67,7 @@ fn ternary_digit(fixed: u32, bits: u32, k: u32) -> u8
     }
 }
 
-// The lowest `width` places as ternary digits.
+// The lowest `width` bits as ternary digits.
 pub(crate) fn append_ternary(
     out: &mut Vec<u8>,
     width: u32,
@@ -83,7 +83,7 @@ pub(crate) fn append_ternary(
     Ok(())
 }
 
-// The length of the prefix whose places these are. They are neither all places nor none.
+// The length of the prefix whose bits these are. They are neither all bits nor none.
 fn prefix_length(fixed: u32) -> Option<u32>
     requires some { 0 < fixed }
     requires not_all { fixed < 2 ^ 32 - 1 }
@@ -108,7 +108,7 @@ pub(crate) fn append_address_field(out: &mut Vec<u8>, fixed: u32, bits: u32) -> 
     }
 }
 
-// An address of which some places are fixed and some are not.
+// An address of which some bits are fixed and some are not.
 fn append_partial(out: &mut Vec<u8>, fixed: u32, bits: u32) -> Result<(), NoMemory>
     requires some { 0 < fixed }
     requires not_all { fixed < 2 ^ 32 - 1 }
@@ -124,7 +124,7 @@ fn append_partial(out: &mut Vec<u8>, fixed: u32, bits: u32) -> Result<(), NoMemo
     }
 }
 
-// A number of `width` places.
+// A number of `width` bits.
 #[tactic(auto, unfolding(crate::specs::FieldText::number_field_text))]
 pub(crate) fn append_number_field(
     out: &mut Vec<u8>,

@@ -12,6 +12,3 @@ mod report;
 pub use cubes::{cube_bytes, header_bytes};
 pub use fields::{address_bytes, decimal_bytes};
 pub use report::{label_bytes, outcome_bytes, report_bytes};
-
-#[cfg(test)]
-mod tests;

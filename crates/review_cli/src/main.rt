@@ -2,7 +2,8 @@
 #![tactic(auto)]
 
 use net_io::{RealFiles, RealSink};
-use review_core::run;
+use review_core::{no_memory, run};
+use std::io::ErrorKind;
 use std::process::ExitCode;
 use std::{env, io};
 
@@ -15,12 +16,23 @@ fn words(rt: &HostRuntime) -> io::Result<Vec<String>> {
     Ok(words)
 }
 
-fn main(rt: HostRuntime) -> ExitCode {
+// The status of a run of these words.
+fn run_words(rt: HostRuntime, words: &[String]) -> u8 {
     let alloc = rt.alloc();
     let mut out = RealSink::new(rt.stdout());
     let mut err = RealSink::new(rt.stderr());
-    // Words that can't be read are no command.
-    let words = words(&rt).unwrap_or(Vec::new(alloc));
     let mut files = RealFiles::new(rt);
-    ExitCode::from(run(alloc, &words, &mut files, &mut out, &mut err))
+    run(alloc, words, &mut files, &mut out, &mut err)
+}
+
+fn main(rt: HostRuntime) -> ExitCode {
+    let status = match words(&rt) {
+        Ok(words) => run_words(rt, &words),
+        Err(error) if error.kind() == ErrorKind::OutOfMemory => {
+            no_memory(&mut RealSink::new(rt.stderr()))
+        }
+        // Words that can't be read are no command.
+        Err(_) => run_words(rt, &[]),
+    };
+    ExitCode::from(status)
 }

@@ -4,7 +4,7 @@ use Rattle.std.specs.List.{list_any}
 use Rattle.net_types.specs.declared.config.Loaded.{Loaded}
 use Rattle.net_types.specs.declared.network.Section.{Section}
 use Rattle.net_types.specs.Report.{IsReport}
-use Rattle.net_io.specs.Faults.{Rose}
+use Rattle.net_io.specs.Faults.{Faultless}
 use Rattle.net_io.specs.Files.{Told}
 use Rattle.net_io.specs.Sink.{TookPrefix}
 use Rattle.net_load.specs.declared.numbering.Numbered.{Numbered}
@@ -20,10 +20,14 @@ use Rattle.review_core.specs.Steps.{Then, GivesFolder, GivesTable}
 abbrev pub has_rows : Section → Bool
 has_rows s = nat_lt 0 (length s.rows)
 
--- the text of the report on two networks, entered with TTL 255, and whether it has a row
+-- packets enter with the greatest TTL (RFC 791, 3.1)
+abbrev pub first_ttl : ℕ
+first_ttl = 255
+
+-- the text of the report on two networks, and whether it has a row
 pub record IsReportOn (n : Numbered) (r : Report) : Type 0 where
   pub sections : List Section
-  pub report : IsReport n.links.ingress (world n.old n.links) (world n.new n.links) 255 sections
+  pub report : IsReport n.links.ingress (world n.old n.links) (world n.new n.links) first_ttl sections
   pub text : r.text.items ≡ report_text n.names sections
   pub affected : r.affected ≡ list_any has_rows sections
 
@@ -61,9 +65,9 @@ Wrote words t status before now =
 abbrev pub WrotePart : List (List ℕ) → Told → Option (List ℕ) → Option (List ℕ) → Type 0
 WrotePart words t before now = (r : Report) × Does words t (Ok r) × TookPrefix before r.text.items now
 
--- a line on the error output, where that didn't fail
+-- a line on the error output, whole where that didn't fail
 pub record Said (line : List ℕ) (before now : Option (List ℕ)) (faults_before faults_now : ℕ) : Type 0 where
-  pub taken : (Rose faults_before faults_now → ⊥) → now ≡ option_map (λ taken. taken ++ line) before
+  pub taken : Faultless faults_before faults_now → now ≡ option_map (λ taken. taken ++ line) before
 
 -- why there is no report, or that there was no memory to say it
 abbrev pub Tells : Stop → ℕ → Option (List ℕ) → Option (List ℕ) → ℕ → ℕ → Type 0

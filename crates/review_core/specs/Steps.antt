@@ -2,7 +2,7 @@
 -- memory may stop it anywhere.
 use Rattle.std.specs.Prelude.{◌≡◌, ◌⊎◌, ℕ, ◌<◌, ◌≤◌, List, Option, None, Some, Result, Ok, Err, IsSomeAnd, length}
 use Rattle.net_types.specs.declared.config.Loaded.{Loaded}
-use Rattle.net_io.specs.declared.reading.TheConstants.{FILE_LIMIT}
+use Rattle.net_io.specs.Limits.{file_limit}
 use Rattle.net_io.specs.Files.{Told, content}
 use Rattle.topo_links.specs.declared.table.LinkLine.{LinkLine}
 use Rattle.topo_links.specs.declared.table.LinkTable.{LinkTable}
@@ -69,13 +69,13 @@ SaysTable path old new bytes (Err s) = LinksFail path old new bytes s
 -- the bytes of a file within the limit; or why there are none
 abbrev pub UnreadFile : List ℕ → Option (List ℕ) → Stop → Type 0
 UnreadFile path bytes (stop.NotFound p) = (p ≡ path) × (bytes ≡ None)
-UnreadFile path bytes (stop.TooLong p) = (p ≡ path) × IsSomeAnd bytes (λ b. FILE_LIMIT < length b)
+UnreadFile path bytes (stop.TooLong p) = (p ≡ path) × IsSomeAnd bytes (λ b. file_limit < length b)
 UnreadFile path bytes (stop.CannotRead p) = p ≡ path
 UnreadFile path bytes stop.NoMemory = Unit {0}
 UnreadFile path bytes _ = ⊥
 
 abbrev pub GivesBytes : {T : Type 0} → (T → List ℕ) → List ℕ → Option (List ℕ) → Result T Stop → Type 0
-GivesBytes view path told (Ok bytes) = (told ≡ Some (view bytes)) × (length (view bytes) ≤ FILE_LIMIT)
+GivesBytes view path told (Ok bytes) = (told ≡ Some (view bytes)) × (length (view bytes) ≤ file_limit)
 GivesBytes view path told (Err s) = UnreadFile path told s
 
 -- the link table's file can't be read, or it is and decides

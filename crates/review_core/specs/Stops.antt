@@ -1,12 +1,10 @@
 -- Why a job ends without a report: the status, and the line on the error output.
 use Rattle.std.specs.Prelude.{ℕ, List, [], ◌∷◌, ◌++◌, codes, decimal}
-use Rattle.ios_lines.specs.declared.fault.Kind.{Kind}
-use Rattle.ios_lines.specs.declared.fault.Kind.TheVariants as kind
-use Rattle.topo_links.specs.declared.table.LinkRefusal.{LinkRefusal}
-use Rattle.topo_links.specs.declared.table.LinkRefusal.TheVariants as links
+use Rattle.ios_lines.specs.Kinds.{kind_text}
+use Rattle.topo_links.specs.Refusals.{refusal_text}
 use Rattle.review_core.specs.declared.stop.Stop.{Stop}
 use Rattle.review_core.specs.declared.stop.Stop.TheVariants as stop
-use Rattle.review_core.specs.declared.stop.TheConstants.{NO_MEMORY}
+use Rattle.review_core.specs.Lines.{no_memory_text}
 
 abbrev pub status_of : Stop → ℕ
 status_of (stop.RefusedConfig path refusal) = 3
@@ -18,30 +16,6 @@ status_of (stop.TooManyFiles path) = 5
 status_of stop.NoMemory = 7
 status_of (stop.NotFound path) = 8
 
-abbrev pub config_kind_text : Kind → List ℕ
-config_kind_text kind.NotCovered = codes "NotCovered"
-config_kind_text kind.BadWord = codes "BadWord"
-config_kind_text kind.MissingWord = codes "MissingWord"
-config_kind_text kind.ExtraWord = codes "ExtraWord"
-config_kind_text kind.BadMask = codes "BadMask"
-config_kind_text kind.HostBits = codes "HostBits"
-config_kind_text kind.BadListNumber = codes "BadListNumber"
-config_kind_text kind.ListKindClash = codes "ListKindClash"
-config_kind_text kind.SequenceTaken = codes "SequenceTaken"
-config_kind_text kind.NatClash = codes "NatClash"
-config_kind_text kind.NoHostname = codes "NoHostname"
-config_kind_text kind.OverlapOnDevice = codes "OverlapOnDevice"
-config_kind_text kind.UnknownInterface = codes "UnknownInterface"
-config_kind_text kind.BannerOpen = codes "BannerOpen"
-
-abbrev pub link_refusal_text : LinkRefusal → List ℕ
-link_refusal_text links.BadWord = codes "BadWord"
-link_refusal_text links.MissingWord = codes "MissingWord"
-link_refusal_text links.EndTaken = codes "EndTaken"
-link_refusal_text links.NoIngress = codes "NoIngress"
-link_refusal_text links.UnknownDevice = codes "UnknownDevice"
-link_refusal_text links.AddressTwice = codes "AddressTwice"
-
 -- a word behind a blank, or nothing where there is none
 abbrev pub word_text : List ℕ → List ℕ
 word_text [] = []
@@ -50,6 +24,10 @@ word_text (c ∷ word) = 32 ∷ c ∷ word
 -- these words, a path and the end of the line
 abbrev pub path_line : List ℕ → List ℕ → List ℕ
 path_line words path = words ++ path ++ 10 ∷ []
+
+-- `cannot read PATH`
+abbrev pub cannot_read_line : List ℕ → List ℕ
+cannot_read_line path = path_line (codes "cannot read ") path
 
 -- `refused PATH line N KIND WORD`, without the last blank where there is no word
 abbrev pub refused_head : List ℕ → ℕ → List ℕ
@@ -62,11 +40,11 @@ abbrev pub refused_line : List ℕ → ℕ → List ℕ → List ℕ → List �
 refused_line path n kind word = refused_head path n ++ refused_tail kind word
 
 abbrev pub line_of : Stop → List ℕ
-line_of (stop.RefusedConfig path refusal) = refused_line path refusal.line (config_kind_text refusal.kind) refusal.word
+line_of (stop.RefusedConfig path refusal) = refused_line path refusal.line (kind_text refusal.kind) refusal.word
 line_of (stop.HostnameTaken first second) = codes "refused " ++ second ++ codes " hostname taken by " ++ first ++ 10 ∷ []
-line_of (stop.RefusedLinks path kind line word) = refused_line path line (link_refusal_text kind) word
-line_of (stop.CannotRead path) = path_line (codes "cannot read ") path
+line_of (stop.RefusedLinks path kind line word) = refused_line path line (refusal_text kind) word
+line_of (stop.CannotRead path) = cannot_read_line path
 line_of (stop.TooLong path) = path_line (codes "too long ") path
 line_of (stop.TooManyFiles path) = path_line (codes "too many files ") path
-line_of stop.NoMemory = NO_MEMORY.now
+line_of stop.NoMemory = no_memory_text
 line_of (stop.NotFound path) = path_line (codes "not found ") path

@@ -1,5 +1,7 @@
 ghost use Rattle.std.specs.Prelude.{◌≡◌, ◌≤◌, ◌<◌, ◌^◌, [], IfOk, IfSome, length};
 ghost use Rattle.std.specs.List.{list_any};
+ghost use Rattle.net_io.specs.Limits.{file_limit};
+ghost use Rattle.net_load.specs.Limits.{folder_limit};
 ghost use Rattle.net_load.specs.Numbering.{count_names, folder_names, numbered_of};
 ghost use Rattle.topo_links.specs.Table.{table_names};
 ghost use Rattle.review_core.specs.Causes.{HasCause};
@@ -15,6 +17,9 @@ use net_types::{Loaded, NoMemory, Section};
 use report_text::report_bytes;
 use std::alloc::Global;
 use topo_links::LinkTable;
+
+// Packets enter with the greatest TTL.
+const FIRST_TTL: u8 = 255;
 
 /// A report as it is written.
 #[derive(Drop)]
@@ -50,7 +55,7 @@ fn compare_with<F: Files>(
     new: &str,
     links: &str,
 ) -> Result<Report, Stop>
-    requires { length (folder_names old.items) ≤ 67108864 }
+    requires { length (folder_names old.items) ≤ folder_limit }
     ensures job { IfSome (F.told files.old) (λ t. ComparesWith t old.items new.now links.now result) }
     ensures cause { HasCause (F.faults files.old) (F.faults files.new) result }
     ensures same { F.told files.new ≡ F.told files.old }
@@ -69,8 +74,8 @@ fn compare_over<F: Files>(
     new: Vec<Loaded>,
     links: &str,
 ) -> Result<Report, Stop>
-    requires old { length (folder_names old.items) ≤ 67108864 }
-    requires new { length (folder_names new.items) ≤ 67108864 }
+    requires old { length (folder_names old.items) ≤ folder_limit }
+    requires new { length (folder_names new.items) ≤ folder_limit }
     ensures job { IfSome (F.told files.old) (λ t. ComparesOver t old.items new.items links.now result) }
     ensures cause { HasCause (F.faults files.old) (F.faults files.new) result }
     ensures same { F.told files.new ≡ F.told files.old }
@@ -87,9 +92,9 @@ fn report_over(
     new: Vec<Loaded>,
     table: &LinkTable,
 ) -> Result<Report, Stop>
-    requires old { length (folder_names old.items) ≤ 67108864 }
-    requires new { length (folder_names new.items) ≤ 67108864 }
-    requires table { length (table_names table.now) ≤ 16777216 }
+    requires old { length (folder_names old.items) ≤ folder_limit }
+    requires new { length (folder_names new.items) ≤ folder_limit }
+    requires table { length (table_names table.now) ≤ file_limit }
     ensures { Reports (numbered_of old.items new.items table.now []) result }
 {
     let report = report_on(alloc, old, new, table)?;
@@ -107,7 +112,13 @@ fn report_on(
     ensures { IfOk result (λ report. IsReportOn (numbered_of old.items new.items table.now []) report) }
 {
     let numbered = number_all(alloc, old, new, table, &[])?;
-    let sections = compare(alloc, &numbered.old, &numbered.new, &numbered.links, 255)?;
+    let sections = compare(
+        alloc,
+        &numbered.old,
+        &numbered.new,
+        &numbered.links,
+        FIRST_TTL,
+    )?;
     let text = report_bytes(alloc, &numbered.names, &sections)?;
     let affected = any_rows(&sections);
     Ok(Report { text, affected })

@@ -1,4 +1,5 @@
 ghost use Rattle.std.specs.Prelude.{◌≡◌, ◌≤◌, IfOk, IfSome, length};
+ghost use Rattle.net_load.specs.Limits.{folder_limit};
 ghost use Rattle.net_load.specs.Numbering.{folder_names};
 ghost use Rattle.review_core.specs.Steps.{GivesFolder, stop_of_load};
 ghost use Rattle.review_core.specs.Causes.{HasCause};
@@ -16,7 +17,7 @@ pub(crate) fn read_folder<F: Files>(
     folder: &str,
 ) -> Result<Vec<Loaded>, Stop>
     ensures devices { IfSome (F.told files.old) (λ t. GivesFolder (λ devices. devices.items) t folder.now result) }
-    ensures names { IfOk result (λ devices. length (folder_names devices.items) ≤ 67108864) }
+    ensures names { IfOk result (λ devices. length (folder_names devices.items) ≤ folder_limit) }
     ensures cause { HasCause (F.faults files.old) (F.faults files.new) result }
     ensures same { F.told files.new ≡ F.told files.old }
 {

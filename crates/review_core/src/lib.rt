@@ -3,6 +3,7 @@
 
 mod comparison;
 mod folder;
+pub mod laws;
 mod stop;
 mod table;
 mod top;
@@ -10,4 +11,4 @@ mod words;
 
 pub use comparison::Report;
 pub use stop::Stop;
-pub use top::{USAGE, run};
+pub use top::{no_memory, run};

@@ -1,8 +1,9 @@
 ghost use Rattle.std.specs.Prelude.{◌≡◌, ◌++◌, ◌∷◌, [], IfOk, OnOk};
-ghost use Rattle.review_core.specs.Stops.{status_of, line_of, config_kind_text, word_text, link_refusal_text};
+ghost use Rattle.review_core.specs.Stops.{status_of, line_of, word_text};
+ghost use Rattle.ios_lines.specs.Kinds.{kind_text};
 ghost use Rattle.review_core.specs.Stops.{refused_head, refused_tail, refused_line};
 
-use ios_lines::{Kind, Refusal};
+use ios_lines::Refusal;
 use net_types::{NoMemory, Text};
 use report_text::decimal_bytes;
 use std::alloc::Global;
@@ -103,7 +104,7 @@ impl Stop {
                 &mut line,
                 path,
                 *number,
-                link_refusal_name(*kind).as_bytes(),
+                kind.name().as_bytes(),
                 word,
             )?,
             Stop::CannotRead { path } => append_line(&mut line, b"cannot read ", path)?,
@@ -146,14 +147,14 @@ fn append_refusal(
     path: &Text,
     refusal: &Refusal,
 ) -> Result<(), NoMemory>
-    ensures { OnOk result (line.new.items ≡ line.old.items ++ refused_line path.now refusal.now.line (config_kind_text refusal.now.kind) refusal.now.word) }
+    ensures { OnOk result (line.new.items ≡ line.old.items ++ refused_line path.now refusal.now.line (kind_text refusal.now.kind) refusal.now.word) }
 {
     append_refused(
         alloc,
         line,
         path,
         refusal.line,
-        config_kind_name(refusal.kind).as_bytes(),
+        refusal.kind.name().as_bytes(),
         &refusal.word,
     )
 }
@@ -202,38 +203,4 @@ fn append_word(line: &mut Vec<u8>, word: &[u8]) -> Result<(), NoMemory>
     append(line, b" ")?;
     append(line, word)?;
     Ok(())
-}
-
-fn config_kind_name(kind: Kind) -> &'static str
-    ensures { result.now ≡ config_kind_text kind }
-{
-    match kind {
-        Kind::NotCovered => "NotCovered",
-        Kind::BadWord => "BadWord",
-        Kind::MissingWord => "MissingWord",
-        Kind::ExtraWord => "ExtraWord",
-        Kind::BadMask => "BadMask",
-        Kind::HostBits => "HostBits",
-        Kind::BadListNumber => "BadListNumber",
-        Kind::ListKindClash => "ListKindClash",
-        Kind::SequenceTaken => "SequenceTaken",
-        Kind::NatClash => "NatClash",
-        Kind::NoHostname => "NoHostname",
-        Kind::OverlapOnDevice => "OverlapOnDevice",
-        Kind::UnknownInterface => "UnknownInterface",
-        Kind::BannerOpen => "BannerOpen",
-    }
-}
-
-fn link_refusal_name(kind: LinkRefusal) -> &'static str
-    ensures { result.now ≡ link_refusal_text kind }
-{
-    match kind {
-        LinkRefusal::BadWord => "BadWord",
-        LinkRefusal::MissingWord => "MissingWord",
-        LinkRefusal::EndTaken => "EndTaken",
-        LinkRefusal::NoIngress => "NoIngress",
-        LinkRefusal::UnknownDevice => "UnknownDevice",
-        LinkRefusal::AddressTwice => "AddressTwice",
-    }
 }

@@ -1,6 +1,6 @@
 ghost use Rattle.std.specs.Prelude.{◌≡◌, ◌≤◌, IfOk, IfSome, length};
 ghost use Rattle.net_io.specs.Files.{content};
-ghost use Rattle.net_io.specs.declared.reading.TheConstants.{FILE_LIMIT};
+ghost use Rattle.net_io.specs.Limits.{file_limit};
 ghost use Rattle.topo_links.specs.Table.{table_names};
 ghost use Rattle.review_core.specs.Causes.{HasCause};
 ghost use Rattle.review_core.specs.Steps.{GivesBytes, GivesTable, IsChecked, SaysTable};
@@ -19,7 +19,7 @@ pub(crate) fn read_table<F: Files>(
     old: &[Loaded],
     new: &[Loaded],
 ) -> Result<LinkTable, Stop>
-    ensures names { IfOk result (λ table. length (table_names table) ≤ 16777216) }
+    ensures names { IfOk result (λ table. length (table_names table) ≤ file_limit) }
     ensures table { IfSome (F.told files.old) (λ t. GivesTable t path.now old.now new.now result) }
     ensures cause { HasCause (F.faults files.old) (F.faults files.new) result }
     ensures same { F.told files.new ≡ F.told files.old }
@@ -31,7 +31,7 @@ pub(crate) fn read_table<F: Files>(
 // The bytes of a file.
 fn read_bytes<F: Files>(alloc: Global, files: &mut F, path: &str) -> Result<Vec<u8>, Stop>
     ensures bytes { IfSome (F.told files.old) (λ t. GivesBytes (λ bytes. bytes.items) path.now (content t path.now) result) }
-    ensures limit { IfOk result (λ bytes. length bytes.items ≤ FILE_LIMIT) }
+    ensures limit { IfOk result (λ bytes. length bytes.items ≤ file_limit) }
     ensures cause { HasCause (F.faults files.old) (F.faults files.new) result }
     ensures same { F.told files.new ≡ F.told files.old }
 {
@@ -58,8 +58,8 @@ fn table_of(
     old: &[Loaded],
     new: &[Loaded],
 ) -> Result<LinkTable, Stop>
-    requires { length bytes.now ≤ 16777216 }
-    ensures names { IfOk result (λ table. length (table_names table) ≤ 16777216) }
+    requires { length bytes.now ≤ file_limit }
+    ensures names { IfOk result (λ table. length (table_names table) ≤ file_limit) }
     ensures table { SaysTable path.now old.now new.now bytes.now result }
 {
     match read_links(alloc, bytes) {
@@ -82,8 +82,8 @@ fn checked(
     old: &[Loaded],
     new: &[Loaded],
 ) -> Result<LinkTable, Stop>
-    requires { length (table_names table) ≤ 16777216 }
-    ensures names { IfOk result (λ answer. length (table_names answer) ≤ 16777216) }
+    requires { length (table_names table) ≤ file_limit }
+    ensures names { IfOk result (λ answer. length (table_names answer) ≤ file_limit) }
     ensures table { IsChecked path.now old.now new.now table result }
 {
     match check(alloc, &table, old, new) {

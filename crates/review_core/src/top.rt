@@ -1,9 +1,12 @@
-ghost use Rattle.std.specs.Prelude.{◌≡◌, ◌≢◌, ◌⊎◌, ◌↔◌, ◌≤◌, ◌++◌, false, Err, IfSome, IfErr, map, string_bytes, option_map};
-ghost use Rattle.net_io.specs.Faults.{Rose};
+ghost use Rattle.std.specs.Prelude.{◌≡◌, ◌≢◌, ◌⊎◌, ◌↔◌, ℕ, List, ◌≤◌, ◌++◌, false, Err, IfSome, IfErr, map, string_bytes, option_map};
+ghost use Rattle.net_io.specs.Faults.{Rose, Faultless};
 ghost use Rattle.net_io.specs.Sink.{TookPrefix};
 ghost use Rattle.review_core.specs.Causes.{HasCause};
 ghost use Rattle.review_core.specs.Words.{is_comparison};
-ghost use Rattle.review_core.specs.Stops.{status_of, line_of};
+ghost use Rattle.review_core.specs.Stops.{status_of, line_of, cannot_read_line};
+ghost use Rattle.review_core.specs.Lines.{usage_text, cannot_write_text, no_memory_text};
+ghost use Rattle.review_core.specs.Accepted.{IsAccepted};
+ghost use Rattle.review_core.specs.declared.stop.Stop.{Stop};
 ghost use Rattle.review_core.specs.Job.{Does, word_at, Wrote, WrotePart, StoppedWith, Said, Tells, status_of_report};
 
 use crate::comparison::{Report, compare_folders};
@@ -12,16 +15,12 @@ use crate::words::is_comparison;
 use net_io::{Files, Sink, write_all};
 use std::alloc::Global;
 
-/// What is written where the words are no command.
-pub const USAGE: &[u8] = b"usage:
-  compare OLD NEW LINKS [--workers N] [--ttl T]
-  ask NET LINKS QUESTIONS [--workers N] [--ttl T]
-  trace NET LINKS DEVICE INTERFACE HEADER [--ttl T]
-  read NET
-  gen NUMBER SIZE [--workers N]
+// What is written where the words are no command.
+const USAGE: &[u8] = b"usage:
+  compare OLD NEW LINKS
 ";
 
-/// What is written where the output took no more.
+// What is written where the output took no more.
 const CANNOT_WRITE: &[u8] = b"cannot write\n";
 
 /// Does what the words of the command line ask, and answers the status.
@@ -34,7 +33,6 @@ pub fn run<F: Files, O: Sink, E: Sink>(
 ) -> u8
     // The words alone decide whether they are a command.
     ensures usage { (result ≡ 2) ↔ (is_comparison (map string_bytes words.now) ≡ false) }
-    ensures usage_line { result ≡ 2 → Said USAGE.now (E.taken err.old) (E.taken err.new) (E.faults err.old) (E.faults err.new) }
 
     // Statuses 0 and 1 come with exactly the report of the job, 1 exactly where it has a row.
     ensures written { IfSome (F.told files.old) (λ t. (result ≡ 0) ⊎ (result ≡ 1)
@@ -53,6 +51,24 @@ pub fn run<F: Files, O: Sink, E: Sink>(
     ensures files { result ≡ 4 → Rose (F.faults files.old) (F.faults files.new) }
     ensures out { result ≡ 6 → Rose (O.faults out.old) (O.faults out.new) }
     ensures statuses { result ≤ 8 }
+
+    // A job of which nothing is refused, too long or absent gives its report, where no fault was counted, but for want
+    // of memory.
+    ensures complete { IfSome (F.told files.old) (λ t. IsAccepted (map string_bytes words.now) t
+        → Faultless (F.faults files.old) (F.faults files.new) → Faultless (O.faults out.old) (O.faults out.new)
+        → (result ≡ 7) ⊎ ((result ≡ 0) ⊎ (result ≡ 1))) }
+
+    // The error output takes nothing at 0 and 1, and the line of the status at each other, where it doesn't fail.
+    ensures quiet { (result ≡ 0) ⊎ (result ≡ 1) → E.taken err.new ≡ E.taken err.old }
+    ensures usage_line { result ≡ 2 → Said usage_text (E.taken err.old) (E.taken err.new) (E.faults err.old) (E.faults err.new) }
+    ensures cannot_read_line { result ≡ 4
+        → (path : List ℕ) × Said (cannot_read_line path) (E.taken err.old) (E.taken err.new) (E.faults err.old) (E.faults err.new) }
+    ensures cannot_write_line { result ≡ 6 → Said cannot_write_text (E.taken err.old) (E.taken err.new) (E.faults err.old) (E.faults err.new) }
+    ensures no_memory_line { result ≡ 7 → Said no_memory_text (E.taken err.old) (E.taken err.new) (E.faults err.old) (E.faults err.new) }
+
+    // So it is at 3, 5 and 8 also where the files aren't told.
+    ensures line { (result ≡ 3) ⊎ ((result ≡ 5) ⊎ (result ≡ 8))
+        → (s : Stop) × (result ≡ status_of s) × Said (line_of s) (E.taken err.old) (E.taken err.new) (E.faults err.old) (E.faults err.new) }
 {
     if !is_comparison(words) {
         return refuse(err);
@@ -61,6 +77,15 @@ pub fn run<F: Files, O: Sink, E: Sink>(
         Ok(report) => write_report(&report, out, err),
         Err(stop) => tell(alloc, &stop, err),
     }
+}
+
+/// Says that there was no memory, and answers the status: also for a caller that has none for the words.
+pub fn no_memory<E: Sink>(err: &mut E) -> u8
+    ensures status { result ≡ 7 }
+    ensures line { Said no_memory_text (E.taken err.old) (E.taken err.new) (E.faults err.old) (E.faults err.new) }
+{
+    say(err, NO_MEMORY);
+    7
 }
 
 // The report that the words ask for.
@@ -86,7 +111,7 @@ fn word_at(words: &[String], i: usize) -> &str
 // The words are no command.
 fn refuse<E: Sink>(err: &mut E) -> u8
     ensures status { result ≡ 2 }
-    ensures line { Said USAGE.now (E.taken err.old) (E.taken err.new) (E.faults err.old) (E.faults err.new) }
+    ensures line { Said usage_text (E.taken err.old) (E.taken err.new) (E.faults err.old) (E.faults err.new) }
 {
     say(err, USAGE);
     2
@@ -97,6 +122,8 @@ fn write_report<O: Sink, E: Sink>(report: &Report, out: &mut O, err: &mut E) -> 
     ensures written { (result ≡ 6) ⊎ ((result ≡ status_of_report report.now) × (O.taken out.new ≡ option_map (λ taken. taken ++ report.now.text.items) (O.taken out.old))) }
     ensures part { result ≡ 6 → TookPrefix (O.taken out.old) report.now.text.items (O.taken out.new) }
     ensures cause { result ≡ 6 → Rose (O.faults out.old) (O.faults out.new) }
+    ensures quiet { (result ≡ 6) ⊎ (E.taken err.new ≡ E.taken err.old) }
+    ensures line { result ≡ 6 → Said cannot_write_text (E.taken err.old) (E.taken err.new) (E.faults err.old) (E.faults err.new) }
 {
     match write_all(out, &report.text) {
         Ok(()) => u8::from(report.affected),
@@ -112,8 +139,7 @@ fn tell<E: Sink>(alloc: Global, stop: &Stop, err: &mut E) -> u8
     ensures { Tells stop.now result (E.taken err.old) (E.taken err.new) (E.faults err.old) (E.faults err.new) }
 {
     let Ok(line) = stop.line(alloc) else {
-        say(err, NO_MEMORY);
-        return 7;
+        return no_memory(err);
     };
     say(err, &line);
     stop.status()

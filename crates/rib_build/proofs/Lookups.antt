@@ -7,11 +7,12 @@ use Rattle.net_types.specs.declared.config.Route.{Route}
 use Rattle.net_types.specs.declared.config.Subnet.{Subnet}
 use Rattle.net_types.specs.Routes.{prefix_number, route_holds}
 use Rattle.rib_build.specs.Prefixes.{has_prefix}
-use Rattle.rib_build.proofs.Any.{and_left, and_right, and_both, not_true, any_weaker, any_either}
+use Rattle.net_types.proofs.Runs.{and_left, and_right, and_both, not_true}
+use Rattle.rib_build.proofs.Any.{any_weaker, any_either}
 
--- a route of a shorter prefix that holds the address
-abbrev pub holds_below : ℕ → ℕ → Route → Bool
-holds_below length a r = nat_lt r.prefix.length length && route_holds a r
+-- a route that holds the address, of a prefix that lacks fewer than so many bits of 32
+abbrev pub holds_beyond : ℕ → ℕ → Route → Bool
+holds_beyond less a r = nat_lt 32 (r.prefix.length + less) && route_holds a r
 
 by_length : (a l : ℕ) (r : Route) → has_prefix (prefix_number l a) l r ≡ true → route_holds a r ≡ true
 by_length a l r e =
@@ -22,31 +23,31 @@ by_length a l r e =
 pub found_by_length : (a l : ℕ) (rs : List Route) → list_any (has_prefix (prefix_number l a) l) rs ≡ true → list_any (route_holds a) rs ≡ true
 found_by_length a l = any_weaker (has_prefix (prefix_number l a) l) (route_holds a) (by_length a l)
 
-pub none_shorter : (a : ℕ) (rs : List Route) → list_any (holds_below 0 a) rs ≡ false
-none_shorter a [] = refl
-none_shorter a (r ∷ rs) =
-    let f : holds_below 0 a r ≡ false = not_true _ (λ e. (let b : r.prefix.length < 0 = ltb-true _ _ (and_left (nat_lt r.prefix.length 0) _ e) in absurd (omega arith))) in
-    ap (λ b. b || list_any (holds_below 0 a) rs) f ∙ none_shorter a rs
+pub none_longer : (a : ℕ) (rs : List Route) → list_any (holds_beyond 0 a) rs ≡ false
+none_longer a [] = refl
+none_longer a (r ∷ rs) =
+    let f : holds_beyond 0 a r ≡ false = not_true _ (λ e. (let b : 32 < r.prefix.length + 0 = ltb-true _ _ (and_left (nat_lt 32 (r.prefix.length + 0)) _ e) in let m = r.prefix.in_range in absurd (omega (arith, b, m)))) in
+    ap (λ b. b || list_any (holds_beyond 0 a) rs) f ∙ none_longer a rs
 
-below_or_at : (m l : ℕ) → m < l + 1 → (m < l) ⊎ (m ≡ l)
-below_or_at m l b = ⊎_elim (λ s. inl s) (λ (n : l ≤ m). inr (omega arith)) (cases_lt m l)
+beyond_or_at : (m less l : ℕ) → l + less ≡ 32 → 32 < m + (less + 1) → (32 < m + less) ⊎ (m ≡ l)
+beyond_or_at m less l e b = ⊎_elim (λ s. inl s) (λ (n : m + less ≤ 32). inr (omega (arith, e, b, n))) (cases_lt 32 (m + less))
 
-split_at : (a l : ℕ) (r : Route) → holds_below (l + 1) a r ≡ true → (holds_below l a r ≡ true) ⊎ (has_prefix (prefix_number l a) l r ≡ true)
-split_at a l r e =
-    let b : r.prefix.length < l + 1 = ltb-true _ _ (and_left (nat_lt r.prefix.length (l + 1)) _ e) in
-    let h : route_holds a r ≡ true = and_right (nat_lt r.prefix.length (l + 1)) _ e in
+split_at : (a less l : ℕ) → l + less ≡ 32 → (r : Route) → holds_beyond (less + 1) a r ≡ true → (holds_beyond less a r ≡ true) ⊎ (has_prefix (prefix_number l a) l r ≡ true)
+split_at a less l e32 r e =
+    let b : 32 < r.prefix.length + (less + 1) = ltb-true _ _ (and_left (nat_lt 32 (r.prefix.length + (less + 1))) _ e) in
+    let h : route_holds a r ≡ true = and_right (nat_lt 32 (r.prefix.length + (less + 1))) _ e in
     ⊎_elim
-    (λ (s : r.prefix.length < l). inl (and_both _ _ (lt-ltb _ _ s) h))
+    (λ (s : 32 < r.prefix.length + less). inl (and_both _ _ (lt-ltb _ _ s) h))
     (λ (m : r.prefix.length ≡ l). inr (and_both _ _ (eq-eqb _ _ m) (eq-eqb _ _ (ap (λ k. prefix_number k r.prefix.address) (sym m) ∙ sym (eqb-true _ _ h) ∙ ap (λ k. prefix_number k a) m))))
-    (below_or_at r.prefix.length l b)
+    (beyond_or_at r.prefix.length less l e32 b)
 
-pub none_more : (a l : ℕ) (rs : List Route) → list_any (holds_below l a) rs ≡ false → list_any (has_prefix (prefix_number l a) l) rs ≡ false → list_any (holds_below (l + 1) a) rs ≡ false
-none_more a l rs e f =
-    not_true _ (λ h. ⊎_elim (λ g. false≢true (sym e ∙ g)) (λ g. false≢true (sym f ∙ g)) (any_either (holds_below (l + 1) a) (holds_below l a) (has_prefix (prefix_number l a) l) (split_at a l) rs h))
+pub none_more : (a less l : ℕ) (rs : List Route) → l + less ≡ 32 → list_any (holds_beyond less a) rs ≡ false → list_any (has_prefix (prefix_number l a) l) rs ≡ false → list_any (holds_beyond (less + 1) a) rs ≡ false
+none_more a less l rs e32 e f =
+    not_true _ (λ h. ⊎_elim (λ g. false≢true (sym e ∙ g)) (λ g. false≢true (sym f ∙ g)) (any_either (holds_beyond (less + 1) a) (holds_beyond less a) (has_prefix (prefix_number l a) l) (split_at a less l e32) rs h))
 
-pub none_at_all : (a : ℕ) (rs : List Route) → list_any (holds_below 33 a) rs ≡ false → list_any (route_holds a) rs ≡ false
+pub none_at_all : (a : ℕ) (rs : List Route) → list_any (holds_beyond 33 a) rs ≡ false → list_any (route_holds a) rs ≡ false
 none_at_all a rs e =
-    not_true _ (λ h. false≢true (sym e ∙ any_weaker (route_holds a) (holds_below 33 a) (λ r g. (let b : r.prefix.length < 33 = omega (arith, r.prefix.in_range) in and_both _ _ (lt-ltb _ _ b) g)) rs h))
+    not_true _ (λ h. false≢true (sym e ∙ any_weaker (route_holds a) (holds_beyond 33 a) (λ r g. (let b : 32 < r.prefix.length + 33 = omega arith in and_both _ _ (lt-ltb _ _ b) g)) rs h))
 
 -- ---- one more prefix
 fill : (t b known : Bool) → cond (b && t) true known ≡ (known || ((t && b) || false))

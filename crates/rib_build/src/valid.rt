@@ -1,11 +1,11 @@
 ghost use Rattle.std.specs.Prelude.{◌≡◌, List, IfOk};
 ghost use Rattle.net_types.specs.declared.config.Route.{Route};
 ghost use Rattle.net_types.specs.Routes.{leads_into};
-ghost use Rattle.rib_build.specs.Ports.{stands_by};
+ghost use Rattle.rib_build.specs.Interfaces.{stands_by};
 ghost use Rattle.rib_build.specs.Prefixes.{AreOf};
 ghost use Rattle.rib_build.specs.Valid.{valid_by};
 
-use crate::ports::Ports;
+use crate::interfaces::Interfaces;
 use crate::prefixes::Prefixes;
 use crate::waiting::{add_held, anchored_prefixes, waiting_by_next};
 use net_types::{NoMemory, Route, RouteExit};
@@ -14,14 +14,14 @@ use std::alloc::Global;
 /// The routes of the list that are valid, in the same order.
 pub fn valid_routes(
     alloc: Global,
-    ports: &Ports,
+    interfaces: &Interfaces,
     routes: Vec<Route>,
 ) -> Result<Vec<Route>, NoMemory>
-    ensures { IfOk result (λ kept. kept.items ≡ valid_by ports.now routes.items) }
+    ensures { IfOk result (λ kept. kept.items ≡ valid_by interfaces.now routes.items) }
 {
     let mut kept = routes;
-    let prefixes = valid_prefixes(alloc, ports, kept.as_slice())?;
-    kept.retain(|route| stands(ports, &prefixes, route));
+    let prefixes = valid_prefixes(alloc, interfaces, kept.as_slice())?;
+    kept.retain(|route| stands(interfaces, &prefixes, route));
     Ok(kept)
 }
 
@@ -29,12 +29,16 @@ pub fn valid_routes(
 ///
 /// Each prefix is worked through once: the routes whose next hop it holds are valid too, and their prefixes are added
 /// to those that are still pending.
-fn valid_prefixes(alloc: Global, ports: &Ports, routes: &[Route]) -> Result<Prefixes, NoMemory>
-    ensures { IfOk result (λ prefixes. AreOf prefixes (valid_by ports.now routes.now)) }
+fn valid_prefixes(
+    alloc: Global,
+    interfaces: &Interfaces,
+    routes: &[Route],
+) -> Result<Prefixes, NoMemory>
+    ensures { IfOk result (λ prefixes. AreOf prefixes (valid_by interfaces.now routes.now)) }
 {
-    let waiting = waiting_by_next(alloc, ports, routes)?;
-    let mut pending = anchored_prefixes(alloc, ports, routes)?;
-    let mut found = Prefixes::none(alloc);
+    let waiting = waiting_by_next(alloc, interfaces, routes)?;
+    let mut pending = anchored_prefixes(alloc, interfaces, routes)?;
+    let mut found = Prefixes::none(alloc, routes.len())?;
     for _turn in 0..u64::MAX {
         let Some(prefix) = pending.pop() else {
             return Ok(found);
@@ -49,10 +53,11 @@ fn valid_prefixes(alloc: Global, ports: &Ports, routes: &[Route]) -> Result<Pref
     Err(NoMemory)
 }
 
-fn stands(ports: &Ports, before: &Prefixes, route: &Route) -> bool
-    ensures { (rs : List Route) → AreOf before.now rs → result ≡ stands_by ports.now rs route.now }
+fn stands(interfaces: &Interfaces, before: &Prefixes, route: &Route) -> bool
+    ensures { (rs : List Route) → AreOf before.now rs → result ≡ stands_by interfaces.now rs route.now }
 {
-    ports.is_usable(route) && (ports.is_anchored(&route.exit) || leads_into(before, &route.exit))
+    interfaces.is_usable(route)
+        && (interfaces.is_anchored(&route.exit) || leads_into(before, &route.exit))
 }
 
 fn leads_into(before: &Prefixes, exit: &RouteExit) -> bool

@@ -2,6 +2,7 @@
 use Rattle.std.specs.Prelude.{◌≡◌, ℕ, Bool, false, ◌&&◌, ◌==◌, List, [], ◌∷◌, ◌++◌, length, take, nat_le, Result, Ok, Err, if◌then◌else◌}
 use Rattle.std.specs.List.{list_any}
 use Rattle.std.specs.Str.{bytes_eq}
+use Rattle.net_text.specs.Limits.{word_limit}
 use Rattle.topo_links.specs.declared.table.LinkKind.{LinkKind}
 use Rattle.topo_links.specs.declared.table.LinkKind.TheVariants as kind
 use Rattle.topo_links.specs.declared.table.LinkRefusal.{LinkRefusal}
@@ -9,6 +10,7 @@ use Rattle.topo_links.specs.declared.table.LinkRefusal.TheVariants as refusal
 use Rattle.topo_links.specs.declared.table.LinkFail.{LinkFail}
 use Rattle.topo_links.specs.declared.table.LinkFail.TheVariants as fail
 
+-- a word, by its bytes
 abbrev pub Word : Type 0
 Word = List ℕ
 
@@ -16,6 +18,7 @@ Word = List ℕ
 abbrev pub End : Type 0
 End = Word × Word
 
+-- both names are equal, byte for byte
 abbrev pub is_same_end : End → End → Bool
 is_same_end e f = bytes_eq e.0 f.0 && bytes_eq e.1 f.1
 
@@ -23,9 +26,9 @@ is_same_end e f = bytes_eq e.0 f.0 && bytes_eq e.1 f.1
 abbrev pub is_taken : End → List End → Bool
 is_taken e ends = list_any (is_same_end e) ends
 
--- a refusal at line n, with at most 64 bytes of the word that shows it
+-- a refusal at line n, with the word that shows it, cut at the limit
 abbrev pub refused : LinkRefusal → ℕ → Word → LinkFail
-refused k n word = fail.Refused k n (take 64 word)
+refused k n word = fail.Refused k n (take word_limit word)
 
 -- a p2p line has two ends, an ingress line one, a lan line two or more
 abbrev pub is_full : LinkKind → ℕ → Bool
@@ -33,6 +36,7 @@ is_full kind.P2p count = count == 2
 is_full kind.Lan count = false
 is_full kind.Ingress count = count == 1
 
+-- so many ends are enough for a line
 abbrev pub is_enough : LinkKind → ℕ → Bool
 is_enough kind.P2p count = count == 2
 is_enough kind.Lan count = nat_le 2 count
@@ -54,6 +58,7 @@ abbrev pub GivesFail : {Y : Type 0} → LinkFail → Result Y LinkFail → Type 
 GivesFail fail.NoMemory read = Unit {0}
 GivesFail (fail.Refused k n word) read = read ≡ Err (fail.Refused k n word)
 
+-- the same of an answer that may be Ok
 abbrev pub Gives : {X Y : Type 0} → (X → Y) → Result X LinkFail → Result Y LinkFail → Type 0
 Gives view (Ok x) read = read ≡ Ok (view x)
 Gives view (Err e) read = GivesFail e read

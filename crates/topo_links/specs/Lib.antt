@@ -1,3 +1,4 @@
+pub mod Refusals
 pub mod Ends
 pub mod Table
 pub mod Draft

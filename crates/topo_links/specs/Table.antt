@@ -20,6 +20,7 @@ kind_of w =
     else (if bytes_eq w (codes "ingress") then Some kind.Ingress
     else None))
 
+-- the line names an ingress
 abbrev pub is_ingress : LinkLine → Bool
 is_ingress l = elim (l.kind) [ kind.P2p ↦ false | kind.Lan ↦ false | kind.Ingress ↦ true ]
 
@@ -29,6 +30,7 @@ segment_part kind.P2p ends = ends
 segment_part kind.Lan ends = ends
 segment_part kind.Ingress ends = []
 
+-- the ends of an ingress line, and none of the others
 abbrev pub ingress_part : LinkKind → List End → List End
 ingress_part kind.P2p ends = []
 ingress_part kind.Lan ends = []
@@ -38,6 +40,7 @@ ingress_part kind.Ingress ends = ends
 abbrev pub segment_ends : List LinkLine → List End
 segment_ends ls = flat_map (λ l. segment_part l.kind l.ends) ls
 
+-- the ingresses of lines
 abbrev pub ingress_ends : List LinkLine → List End
 ingress_ends ls = flat_map (λ l. ingress_part l.kind l.ends) ls
 
@@ -47,6 +50,7 @@ taken_in kind.P2p on_segments ingresses = on_segments
 taken_in kind.Lan on_segments ingresses = on_segments
 taken_in kind.Ingress on_segments ingresses = ingresses
 
+-- the same of the lines before
 abbrev pub taken_for : LinkKind → List LinkLine → List End
 taken_for k ls = taken_in k (segment_ends ls) (ingress_ends ls)
 
@@ -54,6 +58,7 @@ taken_for k ls = taken_in k (segment_ends ls) (ingress_ends ls)
 abbrev pub Effect : Type 0
 Effect = Result (Option LinkLine) LinkFail
 
+-- a line with its ends, or their refusal
 abbrev pub line_with : LinkKind → ℕ → Result (List End) LinkFail → Effect
 line_with k n (Ok ends) = Ok (Some (record { line = n; kind = k; ends = ends }))
 line_with k n (Err e) = Err e
@@ -99,6 +104,7 @@ abbrev pub effects_after : List ℕ → List Effect → List Line → List Effec
 effects_after bytes before [] = before
 effects_after bytes before (l ∷ ls) = effects_after bytes (before ++ line_effect bytes before l ∷ []) ls
 
+-- the effects of all lines
 abbrev pub effects : List ℕ → List Effect
 effects bytes = effects_after bytes [] (lines_of bytes)
 
@@ -118,5 +124,6 @@ table_of bytes = table_by (first_fail (effects bytes)) (rows (effects bytes))
 abbrev pub end_names : List End → List Word
 end_names ends = flat_map (λ e. e.0 ∷ e.1 ∷ []) ends
 
+-- the names of all ends
 abbrev pub table_names : LinkTable → List Word
 table_names t = flat_map (λ l. end_names l.ends) t.lines

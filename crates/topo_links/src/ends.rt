@@ -6,6 +6,7 @@ ghost use Rattle.topo_links.specs.Table.{kind_of, begins_mark};
 
 use crate::taken::Taken;
 use crate::{LinkFail, LinkKind, LinkRefusal};
+use net_text::cut;
 use net_types::{Duplicate, NoMemory, Text};
 use std::alloc::Global;
 
@@ -29,24 +30,6 @@ fn is_enough(kind: LinkKind, count: usize) -> bool
         LinkKind::Lan => count >= 2,
         LinkKind::Ingress => count == 1,
     }
-}
-
-/// The first 64 bytes.
-fn front(bytes: &[u8]) -> &[u8]
-    ensures { result.now ≡ take 64 bytes.now }
-{
-    if bytes.len() <= 64 {
-        return bytes;
-    }
-    let (front, _) = bytes.split_at(64);
-    front
-}
-
-/// The word, at most 64 bytes of it.
-fn cut(alloc: Global, word: &Text) -> Result<Text, NoMemory>
-    ensures { IfOk result (λ text. text ≡ take 64 word.now) }
-{
-    Text::copy_of(alloc, front(word.as_bytes()))
 }
 
 /// The refusal of a line that ends too early.

@@ -20,6 +20,3 @@ pub use judge::check;
 pub use names::NameIndex;
 pub use reader::read_links;
 pub use table::{LinkFail, LinkKind, LinkLine, LinkRefusal, LinkTable};
-
-#[cfg(test)]
-mod tests;

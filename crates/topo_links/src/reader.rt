@@ -1,6 +1,7 @@
 //! Reading a link table.
 ghost use Rattle.std.specs.Prelude.{◌≡◌, ◌≤◌, [], IfOk, length, map};
 ghost use Rattle.std.specs.List.{list_any};
+ghost use Rattle.net_text.specs.Limits.{text_limit};
 ghost use Rattle.net_text.specs.Lines.{piece};
 ghost use Rattle.topo_links.specs.Ends.{Gives};
 ghost use Rattle.topo_links.specs.Table.{effects_after, table_of, whole_table, is_ingress, table_names};
@@ -18,7 +19,7 @@ use std::alloc::Global;
 /// `ingress` line the answer is `NoIngress` at line 0. In a line the words are judged from left to right; `EndTaken`
 /// stands at the interface name, also where the line is too short or too long after it.
 pub fn read_links(alloc: Global, bytes: &[u8]) -> Result<LinkTable, LinkFail>
-    requires { length bytes.now ≤ 16777216 }
+    requires { length bytes.now ≤ text_limit }
     ensures exact { Gives (λ table. table) result (table_of bytes.now) }
 
     // A table has no more names than its text has bytes.
@@ -31,7 +32,7 @@ pub fn read_links(alloc: Global, bytes: &[u8]) -> Result<LinkTable, LinkFail>
 /// The link table of a text, or its refusal.
 #[tactic(auto, unfolding(crate::specs::Table::table_of))]
 fn read_table(alloc: Global, bytes: &[u8]) -> Result<LinkTable, LinkFail>
-    requires { length bytes.now ≤ 16777216 }
+    requires { length bytes.now ≤ text_limit }
     ensures { Gives (λ table. table) result (table_of bytes.now) }
 {
     let lines = lines(alloc, bytes)?;

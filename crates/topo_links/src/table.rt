@@ -1,3 +1,6 @@
+ghost use Rattle.std.specs.Prelude.{◌≡◌};
+ghost use Rattle.topo_links.specs.Refusals.{refusal_text};
+
 use net_types::{List, NoMemory, Text};
 use std::alloc::{AllocError, AllocFailed};
 
@@ -45,6 +48,22 @@ pub enum LinkRefusal {
     UnknownDevice,
     /// Two IP-enabled ends of one segment have one address in one of the networks.
     AddressTwice,
+}
+
+impl LinkRefusal {
+    /// The word that is printed of it.
+    pub fn name(self) -> &'static str
+        ensures { result.now ≡ refusal_text self }
+    {
+        match self {
+            LinkRefusal::BadWord => "BadWord",
+            LinkRefusal::MissingWord => "MissingWord",
+            LinkRefusal::EndTaken => "EndTaken",
+            LinkRefusal::NoIngress => "NoIngress",
+            LinkRefusal::UnknownDevice => "UnknownDevice",
+            LinkRefusal::AddressTwice => "AddressTwice",
+        }
+    }
 }
 
 /// Why there is no link table.

@@ -1,10 +1,8 @@
-pub mod FindLemmas
 pub mod PlaceLemmas
 pub mod StampLemmas
 pub mod SetLemmas
 pub mod LeaveLemmas
 pub mod ForwardLemmas
-pub mod FormLemmas
 pub mod AnswerLemmas
 pub mod OnwardLemmas
 pub mod AgreeLemmas

@@ -1,109 +1,86 @@
 //! Forwarding: what a device does with the destination, and each choice of the lookup.
 
-ghost use Rattle.std.specs.Prelude.{◌≡◌, ◌∷◌, [], ℕ, Some, None, Contains, IfOk, OnOk, map, slice_get, true};
+ghost use Rattle.std.specs.Prelude.{◌≡◌, ◌∷◌, [], ℕ, Some, Contains, IfOk, OnOk, map, slice_get, true};
 ghost use Rattle.hdr_bits.specs.declared.header.Header.{Header};
 ghost use Rattle.hdr_bits.specs.HeaderBits.{number, IsHeader};
 ghost use Rattle.hdr_bits.specs.CubeBits.{IsIn};
-ghost use Rattle.plain_rules.specs.Borrowed.{port_of, world_of};
+ghost use Rattle.cube_alg.specs.declared.on_cube.OnCube.TheVariants as answer;
+ghost use Rattle.net_view.specs.Borrowed.{seat_of};
 ghost use Rattle.net_types.specs.Moves.{move_by, moves_in};
 ghost use Rattle.fib_lookup.specs.Forms.{hop_of};
 ghost use Rattle.device_fates.specs.Fates.{HasFate, IsFate};
-ghost use Rattle.transfer_rel.specs.declared.moves.CubeMoves.TheVariants.{Same};
+ghost use Rattle.net_forms.specs.Seats.{IsCompiledSeat};
 ghost use Rattle.transfer_rel.specs.declared.moves.StampMove.TheVariants.{Local};
-ghost use Rattle.transfer_rel.specs.Forms.{IsDeviceForm};
 ghost use Rattle.transfer_rel.specs.Stages.{AddsChoice, AddsMove, OfMovesAfter, after};
 
-use crate::forms::{NetworkForm, Tables};
-use crate::leave::{Left, leave_by};
-use crate::view::View;
+use crate::leave::leave_by;
 use crate::{CubeMoves, StampMove};
-use cube_alg::Stamp;
-use cube_diagram::Part;
+use cube_alg::{OnCube, Stamp};
 use device_fates::Fate;
 use fib_lookup::HopForm;
 use hdr_bits::Cube;
+use net_forms::CompiledSeat;
 use net_types::{List, NetDevice, NoMemory, Place};
 use std::alloc::Global;
 
 /// The moves of headers that came in, with the stamp that made them, as headers of the cube.
 pub(crate) fn forward(
     alloc: Global,
-    tables: &Tables,
-    network: &NetworkForm,
-    view: View,
+    at: CompiledSeat,
     stamp: Stamp,
     cube: &Cube,
 ) -> Result<CubeMoves, NoMemory>
-    requires device { IsDeviceForm tables.now.diagrams tables.now.fates view.port.device.now view.device.now }
-    requires wiring { network.now.wiring ≡ world_of network.now.world }
-    ensures { IfOk result (λ answer. OfMovesAfter (moves_in (world_of network.now.world) (port_of view.entry.port)) stamp cube.now answer) }
+    requires { IsCompiledSeat at }
+    ensures { IfOk result (λ answer. OfMovesAfter (moves_in at.entry.wiring.now (seat_of at.entry.seat)) stamp cube.now answer) }
 {
-    match tables.diagrams.divide(view.device.fates, cube) {
-        Part::Divided { place } => Ok(CubeMoves::Divides { place }),
-        Part::Whole { value } => by_number(alloc, tables, network, view, value, stamp, cube),
+    match at.tables.diagrams.divide(at.device.fates, cube) {
+        OnCube::Divides { bit } => Ok(OnCube::Divides { bit }),
+        OnCube::All { answer } => by_number(alloc, at, answer, stamp, cube),
     }
 }
 
 // By the number of the fate, which all headers of the cube have.
 fn by_number(
     alloc: Global,
-    tables: &Tables,
-    network: &NetworkForm,
-    view: View,
+    at: CompiledSeat,
     value: Option<u32>,
     stamp: Stamp,
     cube: &Cube,
 ) -> Result<CubeMoves, NoMemory>
-    requires device { IsDeviceForm tables.now.diagrams tables.now.fates view.port.device.now view.device.now }
-    requires wiring { network.now.wiring ≡ world_of network.now.world }
-    requires fate { (g : Header) → IsHeader g → IsIn cube.now (number g) → HasFate view.port.device.now.config tables.now.fates value g.dst }
-    ensures { IfOk result (λ answer. OfMovesAfter (moves_in (world_of network.now.world) (port_of view.entry.port)) stamp cube.now answer) }
+    requires at { IsCompiledSeat at }
+    requires fate { (g : Header) → IsHeader g → IsIn cube.now (number g) → HasFate at.seat.device.now.config at.tables.now.fates value g.dst }
+    ensures { IfOk result (λ answer. OfMovesAfter (moves_in at.entry.wiring.now (seat_of at.entry.seat)) stamp cube.now answer) }
 {
     let Some(number) = value else {
-        let answer = just(alloc, StampMove::Drop)?;
-        return Ok(answer);
+        return just(alloc, StampMove::Drop);
     };
-    let Some(fate) = tables.fates.get(number) else {
-        let answer = just(alloc, StampMove::Drop)?;
-        return Ok(answer);
+    let Some(fate) = at.tables.fates.get(number) else {
+        return just(alloc, StampMove::Drop);
     };
-    by_fate(alloc, tables, network, view, fate, stamp, cube)
+    by_fate(alloc, at, fate, stamp, cube)
 }
 
 fn by_fate(
     alloc: Global,
-    tables: &Tables,
-    network: &NetworkForm,
-    view: View,
+    at: CompiledSeat,
     fate: &Fate,
     stamp: Stamp,
     cube: &Cube,
 ) -> Result<CubeMoves, NoMemory>
-    requires device { IsDeviceForm tables.now.diagrams tables.now.fates view.port.device.now view.device.now }
-    requires wiring { network.now.wiring ≡ world_of network.now.world }
-    requires fate { (g : Header) → IsHeader g → IsIn cube.now (number g) → IsFate view.port.device.now.config fate.now g.dst }
-    ensures { IfOk result (λ answer. OfMovesAfter (moves_in (world_of network.now.world) (port_of view.entry.port)) stamp cube.now answer) }
+    requires at { IsCompiledSeat at }
+    requires fate { (g : Header) → IsHeader g → IsIn cube.now (number g) → IsFate at.seat.device.now.config fate.now g.dst }
+    ensures { IfOk result (λ answer. OfMovesAfter (moves_in at.entry.wiring.now (seat_of at.entry.seat)) stamp cube.now answer) }
 {
     match fate {
-        Fate::Dropped => {
-            let answer = just(alloc, StampMove::Drop)?;
-            Ok(answer)
-        }
-        Fate::Own { position } => {
-            let answer = local(alloc, view.port.device, *position)?;
-            Ok(answer)
-        }
-        Fate::Sent { choices } => {
-            let choices = choices.as_slice();
-            let answer = by_choices(alloc, tables, network, view, choices, stamp, cube)?;
-            Ok(answer)
-        }
+        Fate::Dropped => just(alloc, StampMove::Drop),
+        Fate::Own { position } => local(alloc, at.seat.device, *position),
+        Fate::Sent { choices } => by_choices(alloc, at, choices.as_slice(), stamp, cube),
     }
 }
 
 // It is for the interface at this position.
 fn local(alloc: Global, device: &NetDevice, position: u32) -> Result<CubeMoves, NoMemory>
-    ensures { IfOk result (λ answer. (n : ℕ) → Some n ≡ slice_get device.now.numbers position → answer ≡ Same (Local (record { device = device.now.name; interface = n }) ∷ [])) }
+    ensures { IfOk result (λ r. (n : ℕ) → Some n ≡ slice_get device.now.numbers position → r ≡ answer.All (Local (record { device = device.now.name; interface = n }) ∷ [])) }
 {
     let Some(number) = number_at(device.numbers.as_slice(), position) else {
         return just(alloc, StampMove::Drop);
@@ -123,41 +100,38 @@ fn number_at(numbers: &[u32], position: u32) -> Option<u32>
 
 fn by_choices(
     alloc: Global,
-    tables: &Tables,
-    network: &NetworkForm,
-    view: View,
+    at: CompiledSeat,
     choices: &[HopForm],
     stamp: Stamp,
     cube: &Cube,
 ) -> Result<CubeMoves, NoMemory>
-    requires device { IsDeviceForm tables.now.diagrams tables.now.fates view.port.device.now view.device.now }
-    requires wiring { network.now.wiring ≡ world_of network.now.world }
-    ensures { IfOk result (λ answer. OfMovesAfter (λ g. map (move_by (world_of network.now.world) (port_of view.entry.port) g) (map (hop_of g.dst) choices.now)) stamp cube.now answer) }
+    requires { IsCompiledSeat at }
+    ensures { IfOk result (λ answer. OfMovesAfter (λ g. map (move_by at.entry.wiring.now (seat_of at.entry.seat) g) (map (hop_of g.dst) choices.now)) stamp cube.now answer) }
 {
     let mut moves = Vec::new(alloc);
     for form in choices {
-        let left = leave_by(tables, network, view, form, cube);
-        if let Some(place) = add_choice(&mut moves, left, &stamp)? {
-            return Ok(CubeMoves::Divides { place });
+        let left = leave_by(at, form, cube);
+        if let Some(bit) = add_choice(&mut moves, left, &stamp)? {
+            return Ok(OnCube::Divides { bit });
         }
     }
-    Ok(CubeMoves::Same {
-        moves: List::new(moves),
+    Ok(OnCube::All {
+        answer: List::new(moves),
     })
 }
 
-// Adds the move of a choice, or answers the place that it leaves open.
+// Adds the move of a choice, or answers the bit that divides.
 fn add_choice(
     moves: &mut Vec<StampMove>,
-    left: Left,
+    left: OnCube<StampMove>,
     stamp: &Stamp,
 ) -> Result<Option<u32>, NoMemory>
     ensures { IfOk result (AddsChoice stamp.now left moves.old.items moves.new.items) }
 {
     match left {
-        Left::Divides { place } => Ok(Some(place)),
-        Left::Same { step } => {
-            add_move(moves, after(stamp, step))?;
+        OnCube::Divides { bit } => Ok(Some(bit)),
+        OnCube::All { answer } => {
+            add_move(moves, after(stamp, answer))?;
             Ok(None)
         }
     }
@@ -242,11 +216,11 @@ pub(crate) fn same_stamp(s: Stamp, t: Stamp) -> bool
 
 /// This move alone.
 pub(crate) fn just(alloc: Global, step: StampMove) -> Result<CubeMoves, NoMemory>
-    ensures { IfOk result (λ answer. answer ≡ Same (step ∷ [])) }
+    ensures { IfOk result (λ r. r ≡ answer.All (step ∷ [])) }
 {
     let mut moves = Vec::new(alloc);
     moves.push(step)?;
-    Ok(CubeMoves::Same {
-        moves: List::new(moves),
+    Ok(OnCube::All {
+        answer: List::new(moves),
     })
 }

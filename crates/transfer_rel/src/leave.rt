@@ -1,122 +1,80 @@
 //! Leaving: translation from inside, the output list, and the link.
 
-ghost use Rattle.std.specs.Prelude.{◌≡◌, ◌<◌, option_map, length};
-ghost use Rattle.plain_rules.specs.Borrowed.{port_of, world_of};
-ghost use Rattle.cube_diagram.specs.Functions.{count_of};
-ghost use Rattle.net_types.specs.Moves.{going_out, is_inside, leave, leave_if_any, move_by};
-ghost use Rattle.net_types.specs.World.{port_named};
+ghost use Rattle.std.specs.Prelude.{◌≡◌};
+ghost use Rattle.cube_alg.specs.OnCubes.{on_cube_map};
+ghost use Rattle.net_view.specs.Borrowed.{seat_of};
+ghost use Rattle.net_types.specs.Moves.{going_out, leave, leave_if_any, move_by};
+ghost use Rattle.net_types.specs.World.{seat_named};
 ghost use Rattle.link_sends.specs.Sending.{next_address};
 ghost use Rattle.fib_lookup.specs.Forms.{hop_of};
-ghost use Rattle.transfer_rel.specs.Forms.{IsDeviceForm, IsPortForm};
+ghost use Rattle.net_forms.specs.Forms.{IsSeatForm};
+ghost use Rattle.net_forms.specs.Seats.{IsCompiledSeat};
+ghost use Rattle.transfer_rel.specs.Stages.{OfLeft, OfPassedOn, OfTranslated, stamped_move};
 
 use crate::StampMove;
-use crate::arrive::is_outside;
-use crate::forms::{NetworkForm, Tables};
 use crate::gate::{Gate, ask_list};
-use crate::translate::{Translated, translate_out, untranslated};
-use crate::view::{View, view_named};
-use cube_alg::Stamp;
+use crate::translate::{Stamped, translate_out, untranslated};
+use cube_alg::{OnCube, Stamp};
 use fib_lookup::HopForm;
 use hdr_bits::Cube;
-use link_sends::{Next, Sent, SentOn};
-use net_types::{Place, Side};
+use link_sends::{Next, Sent};
+use net_forms::{CompiledSeat, FormedSeat};
+use net_types::Place;
+use net_view::{is_inside, is_outside};
 
-/// What becomes of the headers of a cube by one choice of the lookup.
-pub(crate) enum Left {
-    /// All of them have this move.
-    Same { step: StampMove },
-    /// The device looks at this place, which the cube leaves open.
-    Divides { place: u32 },
-}
-
-ghost use Rattle.transfer_rel.specs.Stages.{OfLeft, OfPassedOn, OfTranslated, left_with, stamped_move};
-
-/// What becomes of the headers of the cube by a choice of the lookup.
-pub(crate) fn leave_by(
-    tables: &Tables,
-    network: &NetworkForm,
-    view: View,
-    form: &HopForm,
-    cube: &Cube,
-) -> Left
-    requires device { IsDeviceForm tables.now.diagrams tables.now.fates view.port.device.now view.device.now }
-    requires wiring { network.now.wiring ≡ world_of network.now.world }
-    ensures { OfLeft (λ g. move_by (world_of network.now.world) (port_of view.entry.port) g (hop_of g.dst form.now)) cube.now result }
+/// The move of the headers of the cube by a choice of the lookup.
+pub(crate) fn leave_by(at: CompiledSeat, form: &HopForm, cube: &Cube) -> OnCube<StampMove>
+    requires { IsCompiledSeat at }
+    ensures { OfLeft (λ g. move_by at.entry.wiring.now (seat_of at.entry.seat) g (hop_of g.dst form.now)) cube.now result }
 {
     match form {
-        HopForm::Discard => Left::Same {
-            step: StampMove::Drop,
+        HopForm::Discard => OnCube::All {
+            answer: StampMove::Drop,
         },
-        HopForm::Direct { name } => leave_named(
-            tables,
-            network,
-            view,
-            name.as_bytes(),
-            Next::Destination,
-            cube,
-        ),
+        HopForm::Direct { name } => leave_named(at, name.as_bytes(), Next::Destination, cube),
         HopForm::Via { name, next } => {
             let next = Next::Address { address: *next };
-            leave_named(tables, network, view, name.as_bytes(), next, cube)
+            leave_named(at, name.as_bytes(), next, cube)
         }
     }
 }
 
 // Out of the interface of this name. Without one the packet is lost.
-fn leave_named(
-    tables: &Tables,
-    network: &NetworkForm,
-    view: View,
-    name: &[u8],
-    next: Next,
-    cube: &Cube,
-) -> Left
-    requires device { IsDeviceForm tables.now.diagrams tables.now.fates view.port.device.now view.device.now }
-    requires wiring { network.now.wiring ≡ world_of network.now.world }
-    ensures { OfLeft (λ g. leave_if_any (world_of network.now.world) (port_of view.entry.port) g (next_address next g) (port_named view.entry.port.device.now name.now)) cube.now result }
+fn leave_named(at: CompiledSeat, name: &[u8], next: Next, cube: &Cube) -> OnCube<StampMove>
+    requires { IsCompiledSeat at }
+    ensures { OfLeft (λ g. leave_if_any at.entry.wiring.now (seat_of at.entry.seat) g (next_address next g) (seat_named at.entry.seat.device.now name.now)) cube.now result }
 {
-    let Some(out) = view_named(view.port.device, view.device, name) else {
-        return Left::Same {
-            step: StampMove::Lost,
+    let Some(out) = at.named(name) else {
+        return OnCube::All {
+            answer: StampMove::Lost,
         };
     };
-    leave(tables, network, view, out, next, cube)
+    leave(at, out, next, cube)
 }
 
 // Out of this interface of the device.
-fn leave(
-    tables: &Tables,
-    network: &NetworkForm,
-    view: View,
-    out: View,
-    next: Next,
-    cube: &Cube,
-) -> Left
-    requires device { IsDeviceForm tables.now.diagrams tables.now.fates view.port.device.now view.device.now }
-    requires port { IsPortForm tables.now.diagrams view.port.device.now.config out.port.interface.now out.form }
-    requires wiring { network.now.wiring ≡ world_of network.now.world }
-    ensures { OfLeft (λ g. leave (world_of network.now.world) (port_of view.entry.port) g (next_address next g) (port_of out.entry.port)) cube.now result }
+fn leave(at: CompiledSeat, out: FormedSeat, next: Next, cube: &Cube) -> OnCube<StampMove>
+    requires at { IsCompiledSeat at }
+    requires out { IsSeatForm at.tables.now.diagrams at.seat.device.now.config out.seat.interface.now out.form }
+    ensures { OfLeft (λ g. leave at.entry.wiring.now (seat_of at.entry.seat) g (next_address next g) (seat_of out.entry.seat)) cube.now result }
 {
-    match go_out(tables, view, out, cube) {
-        Translated::Divides { place } => Left::Divides { place },
-        Translated::Same {
-            stamp,
-            cube: sent_on,
-        } => {
-            let sent = pass_on(tables, network, view, out, next, &sent_on);
-            sent_with(out.port.place, stamp, sent)
+    match go_out(at, out, cube) {
+        OnCube::Divides { bit } => OnCube::Divides { bit },
+        OnCube::All { answer } => {
+            let sent = pass_on(at, out, next, &answer.cube);
+            sent_with(out.seat.place, answer.stamp, sent)
         }
     }
 }
 
 // The move of headers that are sent with the stamp.
-fn sent_with(place: Place, stamp: Stamp, sent: SentOn) -> Left
-    ensures { result ≡ left_with place stamp sent }
+fn sent_with(place: Place, stamp: Stamp, sent: OnCube<Sent>) -> OnCube<StampMove>
+    ensures { result ≡ on_cube_map (stamped_move place stamp) sent }
 {
     match sent {
-        SentOn::Divides { place } => Left::Divides { place },
-        SentOn::Same { sent } => Left::Same {
-            step: stamped_move(place, stamp, sent),
+        OnCube::Divides { bit } => OnCube::Divides { bit },
+        OnCube::All { answer } => OnCube::All {
+            answer: stamped_move(place, stamp, answer),
         },
     }
 }
@@ -132,40 +90,27 @@ fn stamped_move(place: Place, stamp: Stamp, sent: Sent) -> StampMove
 }
 
 // The output list sees the translated packet, and what it denies is lost.
-fn pass_on(
-    tables: &Tables,
-    network: &NetworkForm,
-    view: View,
-    out: View,
-    next: Next,
-    cube: &Cube,
-) -> SentOn
-    requires port { IsPortForm tables.now.diagrams view.port.device.now.config out.port.interface.now out.form }
-    requires wiring { network.now.wiring ≡ world_of network.now.world }
-    ensures { OfPassedOn (world_of network.now.world) (port_of view.entry.port) (port_of out.entry.port) next cube.now result }
+fn pass_on(at: CompiledSeat, out: FormedSeat, next: Next, cube: &Cube) -> OnCube<Sent>
+    requires { IsSeatForm at.tables.now.diagrams at.seat.device.now.config out.seat.interface.now out.form }
+    ensures { OfPassedOn at.entry.wiring.now (seat_of at.entry.seat) (seat_of out.entry.seat) next cube.now result }
 {
-    let _view = view;
-    match ask_list(&tables.diagrams, out.form.output, cube) {
-        Gate::Divides { place } => SentOn::Divides { place },
-        Gate::Denies => SentOn::Same { sent: Sent::Lost },
-        Gate::Passes => network.wiring.send_on(out.port.place, next, cube),
+    match ask_list(&at.tables.diagrams, out.form.output, cube) {
+        OnCube::Divides { bit } => OnCube::Divides { bit },
+        OnCube::All { answer } => match answer {
+            Gate::Denies => OnCube::All { answer: Sent::Lost },
+            Gate::Passes => at.wiring.send_on(out.seat.place, next, cube),
+        },
     }
 }
 
 /// From an inside to an outside interface the source is translated.
-pub(crate) fn go_out(tables: &Tables, view: View, out: View, cube: &Cube) -> Translated
-    requires { IsDeviceForm tables.now.diagrams tables.now.fates view.port.device.now view.device.now }
-    ensures { OfTranslated (going_out (port_of view.entry.port) (port_of out.entry.port)) cube.now result }
+pub(crate) fn go_out(at: CompiledSeat, out: FormedSeat, cube: &Cube) -> OnCube<Stamped>
+    requires { IsCompiledSeat at }
+    ensures { OfTranslated (going_out (seat_of at.entry.seat) (seat_of out.entry.seat)) cube.now result }
 {
-    if is_inside(view.port.interface.side) && is_outside(out.port.interface.side) {
-        let rules = view.port.device.config.nat.as_slice();
-        return translate_out(&tables.diagrams, view.device.inside, rules, cube);
+    if is_inside(at.seat.interface.side) && is_outside(out.seat.interface.side) {
+        let rules = at.seat.device.config.nat.as_slice();
+        return translate_out(&at.tables.diagrams, at.device.inside, rules, cube);
     }
     untranslated(cube)
-}
-
-fn is_inside(side: Side) -> bool
-    ensures { result ≡ is_inside side }
-{
-    side == Side::Inside
 }

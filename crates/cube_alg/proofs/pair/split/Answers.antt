@@ -40,11 +40,11 @@ returns-clause-fixed c =
     let e = or_adds s.fixed (111 - c.args.k) (omega arith) (star_free s c.args.k c.requires.star) in
     (e, e)
 
-pub returns-clause-low_places : goal.returns-clause-low_places
-returns-clause-low_places c =
-    has_zero c.args.k c.args.c.now _ c.requires.place (star_free c.args.c.now c.args.k c.requires.star) (or_sets c.args.c.now.fixed (111 - c.args.k) (omega arith)) refl
+pub returns-clause-low_bits : goal.returns-clause-low_bits
+returns-clause-low_bits c =
+    has_zero c.args.k c.args.c.now _ c.requires.bit (star_free c.args.c.now c.args.k c.requires.star) (or_sets c.args.c.now.fixed (111 - c.args.k) (omega arith)) refl
 
-pub returns-clause-high_places : goal.returns-clause-high_places
-returns-clause-high_places c =
+pub returns-clause-high_bits : goal.returns-clause-high_bits
+returns-clause-high_bits c =
     let s = c.args.c.now in
-    has_one c.args.k s _ c.requires.place (or_sets s.fixed (111 - c.args.k) (omega arith)) (or_sets s.bits (111 - c.args.k) (omega arith))
+    has_one c.args.k s _ c.requires.bit (or_sets s.fixed (111 - c.args.k) (omega arith)) (or_sets s.bits (111 - c.args.k) (omega arith))

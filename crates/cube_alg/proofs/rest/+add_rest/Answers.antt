@@ -17,9 +17,9 @@ returns-in_err-push-2-clause-grows t c = extends_same c.args.pieces.now.items _ 
 pub add_rest-requires : goal.add_rest-requires
 add_rest-requires t c =
     let p = c.in-Some.ensures in
-    let k = c.in-Some.place in
+    let k = c.in-Some.bit in
     let e = c.split.ensures in
-    let s = turn_one k c.args.a c.args.b.now c.split.result.0 c.split.result.1 p.place p.first (split_halves k c.args.a c.split.result e.low e.high) e.low_places e.high_places (c.is_one.ensures.0 c.if-is_one.true) in
+    let s = turn_one k c.args.a c.args.b.now c.split.result.0 c.split.result.1 p.bit p.first (split_halves k c.args.a c.split.result e.low e.high) e.low_bits e.high_bits (c.is_one.ensures.0 c.if-is_one.true) in
     let f = e.fixed.1 in
     let q = one-le-pow (111 - k) 2 (omega arith) in
     let b = c.split.result.1.below in
@@ -28,9 +28,9 @@ add_rest-requires t c =
 pub add_rest-requires-2 : goal.add_rest-requires-2
 add_rest-requires-2 t c =
     let p = c.in-Some.ensures in
-    let k = c.in-Some.place in
+    let k = c.in-Some.bit in
     let e = c.split.ensures in
-    let s = turn_zero k c.args.a c.args.b.now c.split.result.0 c.split.result.1 p.place p.first (split_halves k c.args.a c.split.result e.low e.high) e.low_places e.high_places (λ e. let t = c.is_one.ensures.1 e in true≢false (sym t ∙ c.if-is_one.false)) in
+    let s = turn_zero k c.args.a c.args.b.now c.split.result.0 c.split.result.1 p.bit p.first (split_halves k c.args.a c.split.result e.low e.high) e.low_bits e.high_bits (λ e. let t = c.is_one.ensures.1 e in true≢false (sym t ∙ c.if-is_one.false)) in
     let f = e.fixed.0 in
     let q = one-le-pow (111 - k) 2 (omega arith) in
     let b = c.split.result.0.below in
@@ -39,9 +39,9 @@ add_rest-requires-2 t c =
 pub returns-then-is_one-clause-rest : goal.returns-then-is_one-clause-rest
 returns-then-is_one-clause-rest t c =
     let p = c.in-Some.ensures in
-    let k = c.in-Some.place in
+    let k = c.in-Some.bit in
     let e = c.split.ensures in
-    let s = turn_one k c.args.a c.args.b.now c.split.result.0 c.split.result.1 p.place p.first (split_halves k c.args.a c.split.result e.low e.high) e.low_places e.high_places (c.is_one.ensures.0 c.if-is_one.true) in
+    let s = turn_one k c.args.a c.args.b.now c.split.result.0 c.split.result.1 p.bit p.first (split_halves k c.args.a c.split.result e.low e.high) e.low_bits e.high_bits (c.is_one.ensures.0 c.if-is_one.true) in
     adds_step c.args.a c.args.b.now c.split.result.0 c.split.result.1 k c.args.pieces.now.items _ s (rw c.in_ok-push.ensures.items at c.in_ok-add_rest.ensures.rest)
 
 pub returns-then-is_one-clause-grows : goal.returns-then-is_one-clause-grows
@@ -51,7 +51,7 @@ returns-then-is_one-clause-grows t c =
 pub returns-clause-rest : goal.returns-clause-rest
 returns-clause-rest t c =
     let p = c.in-Some.ensures in
-    let k = c.in-Some.place in
+    let k = c.in-Some.bit in
     let e = c.split.ensures in
-    let s = turn_zero k c.args.a c.args.b.now c.split.result.0 c.split.result.1 p.place p.first (split_halves k c.args.a c.split.result e.low e.high) e.low_places e.high_places (λ e. let t = c.is_one.ensures.1 e in true≢false (sym t ∙ c.if-is_one.false)) in
+    let s = turn_zero k c.args.a c.args.b.now c.split.result.0 c.split.result.1 p.bit p.first (split_halves k c.args.a c.split.result e.low e.high) e.low_bits e.high_bits (λ e. let t = c.is_one.ensures.1 e in true≢false (sym t ∙ c.if-is_one.false)) in
     adds_step c.args.a c.args.b.now c.split.result.1 c.split.result.0 k c.args.pieces.now.items _ s (rw c.in_ok-push-2.ensures.items at c.in_ok-add_rest-2.ensures.rest)

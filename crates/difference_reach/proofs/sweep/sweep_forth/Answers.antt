@@ -1,6 +1,6 @@
 use Rattle.std.proofs.Common.{arith}
 use Rattle.std.proofs.lemmas.Option.{slice_get_within}
-use Rattle.difference_reach.proofs.Kept.{keeps_then, stops_kept, sweep_turn}
+use Rattle.difference_reach.proofs.Kept.{keeps_then, outlooks_kept, sweep_turn}
 use Rattle.difference_reach.proofs.sweep.sweep_forth.Goals as goal
 
 pub loop-index-preserved : goal.loop-index-preserved
@@ -8,10 +8,10 @@ loop-index-preserved c =
     let before = c.loop-index.invariant in
     let made = c.in_ok-settled.ensures in
     record {
-      stops = stops_kept c.loop-index.table c.update.new.table c.args.stops.now made.kept before.stops;
+      outlooks = outlooks_kept c.loop-index.table c.update.new.table c.args.outlooks.now made.kept before.outlooks;
       below = made.below;
       kept = keeps_then c.args.table.now c.loop-index.table c.update.new.table before.kept made.kept;
-      settled = sweep_turn c.loop-index.table c.update.new.table c.args.stops.now c.loop-index.numbers c.update.new.numbers c.loop-index.index c.loop-index.settled c.in_ok-settled.field-0 made.kept before.below before.stops before.settled made.same made.settled;
+      settled = sweep_turn c.loop-index.table c.update.new.table c.args.outlooks.now c.loop-index.numbers c.update.new.numbers c.loop-index.index c.loop-index.settled c.in_ok-settled.field-0 made.kept before.below before.outlooks before.settled made.same made.settled;
     }
 
 pub returns-clause-settled : goal.returns-clause-settled

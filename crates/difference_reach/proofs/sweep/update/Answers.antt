@@ -5,7 +5,7 @@ use Rattle.difference_reach.proofs.sweep.update.Goals as goal
 
 pub returns-then-after-before-clause-settled : goal.returns-then-after-before-clause-settled
 returns-then-after-before-clause-settled c t =
-    let stops = c.args.stops.now in
+    let outlooks = c.args.outlooks.now in
     let numbers = c.args.numbers.now in
     let within : c.args.index < length numbers = omega (arith, c.requires.within, c.requires.length) in
-    settled_at c.args.table.now c.grown.new.table stops numbers c.args.index c.index-stops-index.result c.in_ok-after.after c.in_ok-after.ensures.kept c.requires.numbers c.requires.stops (slice_get_read stops (length stops) c.args.index c.index-stops-index.result refl c.requires.within c.index-stops-index.is) (slice_get-get_or numbers c.args.index 0 within ∙ ap Some (sym c.if-after-before.true)) c.in_ok-after.ensures.passed
+    settled_at c.args.table.now c.grown.new.table outlooks numbers c.args.index c.index-outlooks-index.result c.in_ok-after.after c.in_ok-after.ensures.kept c.requires.numbers c.requires.outlooks (slice_get_read outlooks (length outlooks) c.args.index c.index-outlooks-index.result refl c.requires.within c.index-outlooks-index.is) (slice_get-get_or numbers c.args.index 0 within ∙ ap Some (sym c.if-after-before.true)) c.in_ok-after.ensures.passed

@@ -1,6 +1,6 @@
 use Rattle.std.proofs.Common.{◌≡◌, ◌<◌, ℕ, ◌⊎◌, inl, inr, ◌∷◌, ◌++◌, [], subst, arith}
 use Rattle.hdr_bits.specs.HeaderBits.{number}
-use Rattle.hdr_bits.specs.Bits.{bit}
+use Rattle.hdr_bits.specs.Bits.{bit_of}
 use Rattle.difference_reach.specs.Ways.{IsOutside}
 use Rattle.difference_reach.proofs.Outside.{outside_left, outside_last}
 use Rattle.difference_reach.proofs.ways.add_halves.Goals as goal
@@ -17,7 +17,7 @@ returns c h a =
     let both : IsOutside (first ++ high ∷ []) h = subst (λ l. IsOutside l h) c.in_ok-push_back-2.ensures.items a in
     let one : IsOutside (rest ++ low ∷ []) h = subst (λ l. IsOutside l h) c.in_ok-push_back.ensures.items (outside_left first (high ∷ []) h both) in (
       outside_left rest (low ∷ []) h one,
-      λ i. elim (zero_or_one (bit (number h) c.args.k) (omega arith)) [
+      λ i. elim (zero_or_one (bit_of (number h) c.args.bit) (omega arith)) [
         | inl z ↦ outside_last rest low h one ((c.split.ensures.low (number h)).1 (i, z))
         | inr o ↦ outside_last first high h both ((c.split.ensures.high (number h)).1 (i, o))
       ],

@@ -1,5 +1,5 @@
 use Rattle.std.proofs.Common.{All}
-use Rattle.plain_rules.specs.Borrowed.{world_of}
+use Rattle.net_view.specs.Borrowed.{world_of}
 use Rattle.like_devices.specs.Like.{IsLikeBeyondInput}
 use Rattle.like_devices.proofs.beyond_input.alike_beyond_input.Given as goal
 

@@ -2,7 +2,7 @@ use Rattle.std.proofs.Common.{ℕ, ◌≡◌, List, Some, refl, find, subst}
 use Rattle.std.specs.Prelude.{Contains, ◌==◌}
 use Rattle.net_types.specs.declared.network.NetDevice.{NetDevice}
 use Rattle.net_types.specs.World.{World}
-use Rattle.plain_rules.specs.Borrowed.{world_of}
+use Rattle.net_view.specs.Borrowed.{world_of}
 use Rattle.link_sends.specs.Sending.{SendAlike}
 use Rattle.like_devices.proofs.BeyondLemmas.{like_beyond}
 use Rattle.like_devices.proofs.beyond_input.is_alike.Goals as goal

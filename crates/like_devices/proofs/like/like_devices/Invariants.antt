@@ -1,5 +1,5 @@
 use Rattle.std.proofs.Common.{All}
-use Rattle.plain_rules.specs.Borrowed.{world_of}
+use Rattle.net_view.specs.Borrowed.{world_of}
 use Rattle.like_devices.specs.Like.{IsLike}
 use Rattle.like_devices.proofs.like.like_devices.Given as goal
 

@@ -2,7 +2,7 @@ use Rattle.std.proofs.Common.{List, subst}
 use Rattle.std.specs.Prelude.{IfOk}
 use Rattle.net_types.specs.declared.network.Place.{Place}
 use Rattle.net_types.specs.Report.{IsReport}
-use Rattle.transfer_rel.specs.CubeMoves.{Worlds}
+use Rattle.net_forms.specs.Worlds.{Worlds}
 use Rattle.net_compare.proofs.comparison.compare.Goals as goal
 
 pub returns : goal.returns

@@ -1,7 +1,7 @@
 use Rattle.std.proofs.Common.{subst}
 use Rattle.region_walk.specs.declared.shortcut.Touch.{Touch}
 use Rattle.region_walk.specs.Answers.{OfTouch}
-use Rattle.transfer_rel.specs.CubeMoves.{Worlds}
+use Rattle.net_forms.specs.Worlds.{Worlds}
 use Rattle.net_compare.proofs.RegionLemmas.{none_affected}
 use Rattle.net_compare.proofs.regions.work.Goals as goal
 

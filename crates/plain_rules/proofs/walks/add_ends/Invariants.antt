@@ -1,7 +1,7 @@
 use Rattle.std.proofs.Common.{◌≡◌, ◌++◌, take, map}
 use Rattle.std.specs.Prelude.{flat_map}
 use Rattle.net_types.specs.Walks.{ends_at, outcome_of}
-use Rattle.plain_rules.specs.Borrowed.{world_of}
+use Rattle.net_view.specs.Borrowed.{world_of}
 use Rattle.plain_rules.proofs.walks.add_ends.Given as goal
 
 abbrev pub invariant-loop-state : goal.invariant-loop-state

@@ -1,7 +1,7 @@
 use Rattle.std.proofs.Common.{◌≡◌, take}
 use Rattle.std.specs.Prelude.{flat_map}
 use Rattle.net_types.specs.Walks.{next_states}
-use Rattle.plain_rules.specs.Borrowed.{world_of}
+use Rattle.net_view.specs.Borrowed.{world_of}
 use Rattle.plain_rules.proofs.walks.all_next.Given as goal
 
 abbrev pub invariant-loop-state : goal.invariant-loop-state

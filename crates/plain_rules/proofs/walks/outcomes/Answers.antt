@@ -2,7 +2,7 @@ use Rattle.std.proofs.Common.{◌≡◌, ℕ, [], arith, rules, map, sym, subst,
 use Rattle.std.proofs.Math.Numerals.{add-one}
 use Rattle.std.proofs.lemmas.List.{map-append}
 use Rattle.net_types.specs.Walks.{ends_below, outcome_of}
-use Rattle.plain_rules.specs.Borrowed.{world_of}
+use Rattle.net_view.specs.Borrowed.{world_of}
 use Rattle.plain_rules.proofs.Ends.{some_outcome}
 use Rattle.plain_rules.proofs.walks.outcomes.Goals as goal
 

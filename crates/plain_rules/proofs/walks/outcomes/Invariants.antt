@@ -1,6 +1,6 @@
 use Rattle.std.proofs.Common.{◌≡◌, map}
 use Rattle.net_types.specs.Walks.{states_after, ends_below, outcome_of}
-use Rattle.plain_rules.specs.Borrowed.{world_of}
+use Rattle.net_view.specs.Borrowed.{world_of}
 use Rattle.plain_rules.proofs.walks.outcomes.Given as goal
 
 abbrev pub invariant-loop-n : goal.invariant-loop-n

@@ -1,6 +1,6 @@
 use Rattle.std.proofs.Common.{◌≡◌}
 use Rattle.net_types.specs.Walks.{states_after}
-use Rattle.plain_rules.specs.Borrowed.{world_of}
+use Rattle.net_view.specs.Borrowed.{world_of}
 use Rattle.plain_rules.proofs.walks.states_after.Given as goal
 
 abbrev pub invariant-loop-turn : goal.invariant-loop-turn

@@ -1,6 +1,6 @@
 use Rattle.std.proofs.Common.{◌≡◌, ◌∷◌, [], Some, length, slice_get, sym, ap, subst, ◌∙◌, arith}
 use Rattle.std.proofs.lemmas.List.{length-append}
-use Rattle.transfer_rel.specs.CubeMoves.{world_in}
+use Rattle.net_forms.specs.Worlds.{world_in}
 use Rattle.region_walk.specs.Visits.{AreVisited}
 use Rattle.region_walk.specs.Seen.{OfSeen}
 use Rattle.region_walk.proofs.NumberLemmas.{extends_then}
@@ -15,13 +15,13 @@ loop-number-preserved c =
     let spots = c.loop-number.spots.keys in
     let new = c.visit_at.new.spots.keys in
     let visits = c.loop-number.visits.items in
-    let v = c.in-One.visit in
+    let v = c.in-All.visit in
     let s = c.in-Some.spot.now in
-    let pushed = c.in_ok-push-in-One.ensures.items in
+    let pushed = c.in_ok-push-in-All.ensures.items in
     let at : c.len.result ≡ length visits = omega (arith, c.len.ensures, c.loop-number.visits.ok.0) in
     let there : slice_get spots (length visits) ≡ Some s = subst (λ n. slice_get spots n ≡ Some s) at (sym c.in-Some.ensures.key) in
-    let one = subst (OfSeen w k g s new) c.in-One.is c.in_ok-place.ensures.seen in
-    let grows = c.in_ok-place.ensures.grows in
+    let one = subst (OfSeen w k g s new) c.in-All.is c.in_ok-bit.ensures.seen in
+    let grows = c.in_ok-bit.ensures.grows in
     record {
       count = ap length pushed ∙ length-append visits (v ∷ []) ∙ omega (arith, c.loop-number.invariant.count);
       right = subst (AreVisited w k g new) (sym pushed) (visited_push w k g s spots new visits v c.loop-number.invariant.right there one grows);

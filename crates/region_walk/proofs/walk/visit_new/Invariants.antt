@@ -1,6 +1,6 @@
 use Rattle.std.proofs.Common.{◌≡◌, length}
-use Rattle.transfer_rel.specs.CubeMoves.{world_in}
-use Rattle.region_walk.specs.Lists.{Extends}
+use Rattle.net_forms.specs.Worlds.{world_in}
+use Rattle.hdr_bits.specs.Lists.{Extends}
 use Rattle.region_walk.specs.Visits.{AreVisited}
 use Rattle.region_walk.proofs.walk.visit_new.Given as goal
 

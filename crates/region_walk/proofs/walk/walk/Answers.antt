@@ -1,7 +1,8 @@
 use Rattle.std.proofs.Common.{◌∷◌, ◌++◌, [], ◌+◌, sym, ap, subst, ◌∙◌, arith}
 use Rattle.std.specs.Prelude.{flat_map}
 use Rattle.hdr_bits.specs.HeaderBits.{IsHeader}
-use Rattle.transfer_rel.specs.CubeMoves.{SameSet, world_in}
+use Rattle.net_forms.specs.Worlds.{world_in}
+use Rattle.transfer_rel.specs.CubeMoves.{SameSet}
 use Rattle.region_walk.specs.declared.level.Level.{Level}
 use Rattle.region_walk.specs.Lists.{items_at}
 use Rattle.region_walk.specs.Spots.{spot_at, IsBase}
@@ -40,15 +41,15 @@ loop-n-preserved c =
     let visits = c.visit_new.new.visits.items in
     let states = c.loop-n.states.items in
     let next = c.in_ok-states.states.items in
-    let grows = c.in_ok-place.ensures.spots in
-    let all = subst (OfSweep w k g spots new visits) c.in-All.is c.in_ok-place.ensures.sweep in
+    let grows = c.in_ok-bit.ensures.spots in
+    let all = subst (OfSweep w k g spots new visits) c.in-All.is c.in_ok-bit.ensures.sweep in
     let l : Level = record { states = c.new-in-loop-n.result } in
     let same : SameSet next (flat_map next_numbers (items_at visits states)) =
     subst (λ ns. SameSet next (flat_map next_numbers (items_at visits ns))) c.deref-in-loop-n.ensures.value
     (subst (λ vs. SameSet next (flat_map next_numbers (items_at vs c.deref-in-loop-n.result.now))) c.deref.ensures.value c.in_ok-states.ensures) in
     record {
       visited = all.right;
-      done = done_turn w k g p n spots new before visits states next c.loop-n.invariant.states grows all c.loop-n.levels.items c.push-in-loop-n.new.self.items l c.loop-n.invariant.done c.in_ok-place.ensures.visits c.new-in-loop-n.ensures c.in_ok-push-2.ensures.items;
+      done = done_turn w k g p n spots new before visits states next c.loop-n.invariant.states grows all c.loop-n.levels.items c.push-in-loop-n.new.self.items l c.loop-n.invariant.done c.in_ok-bit.ensures.visits c.new-in-loop-n.ensures c.in_ok-push-2.ensures.items;
       states = states_turn w k g p n spots new before visits states next c.loop-n.invariant.states grows all same;
     }
 
@@ -65,8 +66,8 @@ returns-then-len-eq0 c =
     let visits = c.visit_new.new.visits.items in
     let states = c.loop-n.states.items in
     let next = c.in_ok-states.states.items in
-    let grows = c.in_ok-place.ensures.spots in
-    let all = subst (OfSweep w k g spots new visits) c.in-All.is c.in_ok-place.ensures.sweep in
+    let grows = c.in_ok-bit.ensures.spots in
+    let all = subst (OfSweep w k g spots new visits) c.in-All.is c.in_ok-bit.ensures.sweep in
     let l : Level = record { states = c.new-in-loop-n.result } in
     let levels = c.push-in-loop-n.new.self.items in
     let same : SameSet next (flat_map next_numbers (items_at visits states)) =
@@ -75,6 +76,6 @@ returns-then-len-eq0 c =
     let fits : IsHeader g = record { dst = omega arith; src = omega arith; proto = omega arith; dport = omega arith; sport = omega arith; flags = omega arith } in
     let base : IsBase k g = record { fits = fits; inside = c.least-first.ensures.member } in
     graph_at_end w k g p (n + 1) new visits levels next base
-    (done_turn w k g p n spots new before visits states next c.loop-n.invariant.states grows all c.loop-n.levels.items levels l c.loop-n.invariant.done c.in_ok-place.ensures.visits c.new-in-loop-n.ensures c.in_ok-push-2.ensures.items)
+    (done_turn w k g p n spots new before visits states next c.loop-n.invariant.states grows all c.loop-n.levels.items levels l c.loop-n.invariant.done c.in_ok-bit.ensures.visits c.new-in-loop-n.ensures c.in_ok-push-2.ensures.items)
     (states_turn w k g p n spots new before visits states next c.loop-n.invariant.states grows all same)
     (empty_if next (omega (arith, c.in_ok-states.states.ok.0, c.len.ensures, c.if-len-eq0.true)))

@@ -1,4 +1,4 @@
-use Rattle.transfer_rel.specs.CubeMoves.{world_in}
+use Rattle.net_forms.specs.Worlds.{world_in}
 use Rattle.region_walk.specs.Visits.{AreVisited, AreDone, AreStates}
 use Rattle.region_walk.proofs.walk.walk.Given as goal
 

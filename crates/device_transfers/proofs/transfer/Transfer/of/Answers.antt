@@ -1,4 +1,4 @@
-use Rattle.transfer_rel.specs.CubeMoves.{world_in}
+use Rattle.net_forms.specs.Worlds.{world_in}
 use Rattle.device_transfers.proofs.EntryLemmas.{entries_of_added, hold_every}
 use Rattle.device_transfers.proofs.transfer.Transfer.of.Goals as goal
 

@@ -3,7 +3,8 @@ use Rattle.hdr_bits.specs.declared.header.Header.{Header}
 use Rattle.hdr_bits.specs.HeaderBits.{number, IsHeader}
 use Rattle.hdr_bits.specs.CubeBits.{IsIn}
 use Rattle.net_types.specs.Walks.{label}
-use Rattle.transfer_rel.specs.CubeMoves.{SameSet, world_in}
+use Rattle.net_forms.specs.Worlds.{world_in}
+use Rattle.transfer_rel.specs.CubeMoves.{SameSet}
 use Rattle.region_walk.specs.Region.{Region}
 use Rattle.region_walk.specs.Visits.{visits_at, outcomes_below}
 use Rattle.region_walk.proofs.LevelLemmas.{some_outcomes, label_is}

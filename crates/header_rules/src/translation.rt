@@ -1,0 +1,125 @@
+ghost use Rattle.std.specs.Prelude.{◌≡◌, find};
+ghost use Rattle.std.specs.Option.{option_copied};
+ghost use Rattle.net_types.specs.Translation.{from_outside, from_inside, is_plain, is_port_rule};
+ghost use Rattle.net_types.specs.Translation.{port_fits_dst, plain_fits_dst, port_fits_src, plain_fits_src};
+
+use hdr_bits::Header;
+use net_types::{NatKind, NatRule};
+
+/// The header after translation from outside: the first port rule that has its destination on the global side
+/// replaces address and port by the local ones, else the first plain rule replaces the address.
+pub fn from_outside(rules: &[NatRule], h: &Header) -> Header
+    ensures { result ≡ from_outside rules.now h.now }
+{
+    if let Some(rule) = port_rule_to(rules, h) {
+        return Header {
+            dst: rule.local,
+            dport: rule.local_port,
+            ..*h
+        };
+    }
+    match plain_rule_to(rules, h) {
+        Some(rule) => Header {
+            dst: rule.local,
+            ..*h
+        },
+        None => *h,
+    }
+}
+
+/// The header after translation from inside: the first port rule that has its source on the local side replaces
+/// address and port by the global ones, else the first plain rule replaces the address.
+pub fn from_inside(rules: &[NatRule], h: &Header) -> Header
+    ensures { result ≡ from_inside rules.now h.now }
+{
+    if let Some(rule) = port_rule_from(rules, h) {
+        return Header {
+            src: rule.global,
+            sport: rule.global_port,
+            ..*h
+        };
+    }
+    match plain_rule_from(rules, h) {
+        Some(rule) => Header {
+            src: rule.global,
+            ..*h
+        },
+        None => *h,
+    }
+}
+
+// The first port rule that translates the header's destination.
+fn port_rule_to<'a>(rules: &'a [NatRule], h: &Header) -> Option<&'a NatRule>
+    ensures { option_copied result ≡ find (port_fits_dst h.now) rules.now }
+{
+    rules.iter().find(|r| port_fits_dst(h, r))
+}
+
+// The first plain rule that does.
+fn plain_rule_to<'a>(rules: &'a [NatRule], h: &Header) -> Option<&'a NatRule>
+    ensures { option_copied result ≡ find (plain_fits_dst h.now) rules.now }
+{
+    rules.iter().find(|r| plain_fits_dst(h, r))
+}
+
+// The first port rule that translates the header's source.
+fn port_rule_from<'a>(rules: &'a [NatRule], h: &Header) -> Option<&'a NatRule>
+    ensures { option_copied result ≡ find (port_fits_src h.now) rules.now }
+{
+    rules.iter().find(|r| port_fits_src(h, r))
+}
+
+// The first plain rule that does.
+fn plain_rule_from<'a>(rules: &'a [NatRule], h: &Header) -> Option<&'a NatRule>
+    ensures { option_copied result ≡ find (plain_fits_src h.now) rules.now }
+{
+    rules.iter().find(|r| plain_fits_src(h, r))
+}
+
+// Whether the port rule translates the header's destination.
+fn port_fits_dst(h: &Header, rule: &NatRule) -> bool
+    ensures { result ≡ port_fits_dst h.now rule.now }
+{
+    is_port_rule(rule.kind, h.proto) && (rule.global == h.dst && rule.global_port == h.dport)
+}
+
+// Whether the plain rule translates the header's destination.
+fn plain_fits_dst(h: &Header, rule: &NatRule) -> bool
+    ensures { result ≡ plain_fits_dst h.now rule.now }
+{
+    is_plain(rule.kind) && rule.global == h.dst
+}
+
+// Whether the port rule translates the header's source.
+fn port_fits_src(h: &Header, rule: &NatRule) -> bool
+    ensures { result ≡ port_fits_src h.now rule.now }
+{
+    is_port_rule(rule.kind, h.proto) && (rule.local == h.src && rule.local_port == h.sport)
+}
+
+// Whether the plain rule translates the header's source.
+fn plain_fits_src(h: &Header, rule: &NatRule) -> bool
+    ensures { result ≡ plain_fits_src h.now rule.now }
+{
+    is_plain(rule.kind) && rule.local == h.src
+}
+
+/// Whether it is a rule for every protocol and port.
+pub fn is_plain(kind: NatKind) -> bool
+    ensures { result ≡ is_plain kind }
+{
+    match kind {
+        NatKind::Plain => true,
+        NatKind::Tcp | NatKind::Udp => false,
+    }
+}
+
+fn is_port_rule(kind: NatKind, proto: u8) -> bool
+    ensures { result ≡ is_port_rule kind proto }
+{
+    match kind {
+        NatKind::Plain => false,
+        NatKind::Tcp => proto == 6,
+        NatKind::Udp => proto == 17,
+    }
+}

@@ -1,0 +1,6 @@
+pub mod Along
+pub mod Forms
+pub mod Networks
+pub mod Pairs
+pub mod Seats
+pub mod Worlds

@@ -1,0 +1,219 @@
+//! How a network is compiled: each device once, and each of its lists once. A device that another network has compiled
+//! already, equal in all, keeps the form that it has there.
+
+ghost use Rattle.std.specs.Prelude.{◌≡◌, All, Contains, IfOk, IfSome, OnOk, option_and_then, position, slice_get};
+ghost use Rattle.std.specs.Option.{option_copied};
+ghost use Rattle.cube_diagram.specs.Functions.{Keeps};
+ghost use Rattle.net_types.specs.Moves.{list_named};
+ghost use Rattle.net_view.specs.Borrowed.{world_of};
+ghost use Rattle.net_types.specs.Routes.{same_text};
+ghost use Rattle.net_forms.specs.Forms.{AreSeatForms, IsDeviceForm, IsKnown, IsList, TablesGrow, list_in};
+ghost use Rattle.net_forms.specs.Networks.{AreDevices, IsCopy, IsFormIn, IsIndexed, IsNetworkForm};
+
+use crate::forms::{DeviceForm, KnownList, NetworkForm, SeatForm, Tables};
+use crate::seat::device_named;
+use acl_match::add_list;
+use cube_diagram::Diagrams;
+use device_equality::same_device;
+use device_fates::add_device;
+use link_sends::Wiring;
+use nat_static::{inside_pieces, outside_pieces};
+use net_types::{AccessList, Config, NetDevice, NoMemory, Text};
+use net_view::{WorldRef, same_text};
+use std::alloc::Global;
+
+/// The form of the network, in these tables. `known` is a network that was compiled before in the same tables, if one was:
+/// an equal device has the same form in both.
+///
+/// # Errors
+///
+/// There was no memory, or a device lacks the number of an interface.
+pub fn compile_network<'a>(
+    alloc: Global,
+    tables: &mut Tables,
+    world: WorldRef<'a>,
+    known: Option<&NetworkForm>,
+) -> Result<NetworkForm<'a>, NoMemory>
+    requires { IfSome known (λ n. IsNetworkForm tables.old.diagrams tables.old.fates n.now) }
+    ensures form { IfOk result (λ n. IsNetworkForm tables.new.diagrams tables.new.fates n) }
+    ensures world { IfOk result (λ n. n.world ≡ world.entry) }
+    ensures kept { OnOk result (TablesGrow tables.old tables.new) }
+{
+    let wiring = Wiring::of(alloc, world)?;
+    let devices = compile_devices(alloc, tables, known, world.network.devices.as_slice())?;
+    Ok(NetworkForm {
+        world,
+        devices,
+        wiring,
+    })
+}
+
+fn compile_devices(
+    alloc: Global,
+    tables: &mut Tables,
+    known: Option<&NetworkForm>,
+    devices: &[NetDevice],
+) -> Result<Vec<DeviceForm>, NoMemory>
+    requires { IfSome known (λ n. IsNetworkForm tables.old.diagrams tables.old.fates n.now) }
+    ensures forms { IfOk result (λ r. AreDevices tables.new.diagrams tables.new.fates devices.now r.items) }
+    ensures kept { OnOk result (TablesGrow tables.old tables.new) }
+{
+    let mut forms = Vec::new(alloc);
+    for device in devices {
+        let form = known_or_compiled(alloc, tables, known, device)?;
+        forms.push(form)?;
+    }
+    Ok(forms)
+}
+
+// The form that the known network has of an equal device, else a new one.
+fn known_or_compiled(
+    alloc: Global,
+    tables: &mut Tables,
+    known: Option<&NetworkForm>,
+    device: &NetDevice,
+) -> Result<DeviceForm, NoMemory>
+    requires { IfSome known (λ n. IsNetworkForm tables.old.diagrams tables.old.fates n.now) }
+    ensures form { IfOk result (λ f. IsDeviceForm tables.new.diagrams tables.new.fates device.now f) }
+    ensures kept { OnOk result (TablesGrow tables.old tables.new) }
+{
+    let Some(network) = known else {
+        return compile_device(alloc, tables, device);
+    };
+    let Some(form) = known_form(network, device) else {
+        return compile_device(alloc, tables, device);
+    };
+    copy_of(alloc, form)
+}
+
+// The form of an equal device in the network, if it has one.
+fn known_form<'a>(network: &'a NetworkForm<'a>, device: &NetDevice) -> Option<&'a DeviceForm>
+    requires { IsIndexed network.now }
+    ensures { IfSome result (λ f. IsFormIn network.now device.now f.now) }
+{
+    let Some(known) = device_named(network, device.name) else {
+        return None;
+    };
+    if !same_device(known.device, device) {
+        return None;
+    }
+    Some(known.form)
+}
+
+fn copy_of(alloc: Global, form: &DeviceForm) -> Result<DeviceForm, NoMemory>
+    ensures { IfOk result (IsCopy form.now) }
+{
+    let seats = form.seats.to_vec(alloc)?;
+    Ok(DeviceForm {
+        seats,
+        outside: form.outside,
+        inside: form.inside,
+        fates: form.fates,
+    })
+}
+
+fn compile_device(
+    alloc: Global,
+    tables: &mut Tables,
+    device: &NetDevice,
+) -> Result<DeviceForm, NoMemory>
+    ensures form { IfOk result (λ f. IsDeviceForm tables.new.diagrams tables.new.fates device.now f) }
+    ensures kept { OnOk result (TablesGrow tables.old tables.new) }
+{
+    let config = &device.config;
+    if device.numbers.as_slice().len() < config.interfaces.as_slice().len() {
+        return Err(NoMemory);
+    }
+    let seats = compile_seats(alloc, &mut tables.diagrams, config)?;
+    let pieces = outside_pieces(alloc, config.nat.as_slice())?;
+    let outside = tables.diagrams.first_match(&pieces)?;
+    let pieces = inside_pieces(alloc, config.nat.as_slice())?;
+    let inside = tables.diagrams.first_match(&pieces)?;
+    let fates = add_device(alloc, &mut tables.diagrams, &mut tables.fates, config)?;
+    Ok(DeviceForm {
+        seats,
+        outside,
+        inside,
+        fates,
+    })
+}
+
+// The lists of each interface.
+fn compile_seats(
+    alloc: Global,
+    diagrams: &mut Diagrams,
+    config: &Config,
+) -> Result<Vec<SeatForm>, NoMemory>
+    ensures seats { IfOk result (λ r. AreSeatForms diagrams.new config.now config.now.interfaces r.items) }
+    ensures kept { OnOk result (Keeps diagrams.old diagrams.new) }
+{
+    let lists = config.lists.as_slice();
+    let mut known = Vec::new(alloc);
+    let mut seats = Vec::new(alloc);
+    for interface in config.interfaces.as_slice() {
+        let input = list_function(alloc, diagrams, lists, &mut known, &interface.input)?;
+        let output = list_function(alloc, diagrams, lists, &mut known, &interface.output)?;
+        seats.push(SeatForm { input, output })?;
+    }
+    Ok(seats)
+}
+
+// The function of the list of this name. A list that was met before is known by its position.
+fn list_function(
+    alloc: Global,
+    diagrams: &mut Diagrams,
+    lists: &[AccessList],
+    known: &mut Vec<KnownList>,
+    name: &Option<Text>,
+) -> Result<u32, NoMemory>
+    requires { All (IsKnown diagrams.old lists.now) known.old.items }
+    ensures list { IfOk result (IsList diagrams.new (list_in lists.now name.now)) }
+    ensures known { OnOk result (All (IsKnown diagrams.new lists.now) known.new.items) }
+    ensures kept { OnOk result (Keeps diagrams.old diagrams.new) }
+{
+    let Some(position) = list_position(lists, name) else {
+        let function = add_list(alloc, diagrams, None)?;
+        return Ok(function);
+    };
+    if let Some(function) = known_function(known, position) {
+        return Ok(function);
+    }
+    let function = add_list(alloc, diagrams, list_at(lists, position))?;
+    known.push(KnownList { position, function })?;
+    Ok(function)
+}
+
+fn list_position(lists: &[AccessList], name: &Option<Text>) -> Option<usize>
+    ensures { result ≡ option_and_then (λ n. position (λ l. same_text l.name n) lists.now) name.now }
+{
+    let Some(name) = name else {
+        return None;
+    };
+    position_named(lists, name.as_bytes())
+}
+
+fn position_named(lists: &[AccessList], name: &[u8]) -> Option<usize>
+    ensures { result ≡ position (λ l. same_text l.name name.now) lists.now }
+{
+    lists
+        .iter()
+        .position(|l| same_text(l.name.as_bytes(), name))
+}
+
+fn list_at(lists: &[AccessList], position: usize) -> Option<&AccessList>
+    ensures { option_copied result ≡ slice_get lists.now position }
+{
+    lists.get(position)
+}
+
+// The function that is known of the list at this position.
+fn known_function(known: &[KnownList], position: usize) -> Option<u32>
+    ensures { IfSome result (λ f. Contains known.now (record { position = position; function = f })) }
+{
+    for k in known {
+        if k.position == position {
+            return Some(k.function);
+        }
+    }
+    None
+}

@@ -1,0 +1,73 @@
+//! The compiled forms of networks and devices.
+
+ghost use Rattle.std.specs.Prelude.{◌≡◌, [], IfOk};
+
+use cube_diagram::Diagrams;
+use device_fates::Fates;
+use link_sends::Wiring;
+use net_types::NoMemory;
+use net_view::WorldRef;
+use std::alloc::Global;
+
+/// What compiled networks share: the functions, and the fates of destinations. Both only grow, and what is there keeps its
+/// number.
+#[derive(Drop)]
+pub struct Tables {
+    /// Functions from headers to numbers.
+    pub diagrams: Diagrams,
+    /// What devices do with destinations, by numbers.
+    pub fates: Fates,
+}
+
+impl Tables {
+    /// No fates, and only the functions that each table has.
+    pub fn new(alloc: Global) -> Result<Tables, NoMemory>
+        ensures { IfOk result (λ tables. tables.fates ≡ []) }
+    {
+        let diagrams = Diagrams::new(alloc)?;
+        Ok(Tables {
+            diagrams,
+            fates: Fates::new(alloc),
+        })
+    }
+}
+
+/// The functions of an interface's lists: they give a header 1 where the list passes it, and else 0.
+#[derive(Clone, Copy)]
+pub struct SeatForm {
+    /// Of the list that arriving packets meet.
+    pub input: u32,
+    /// Of the list that leaving packets meet.
+    pub output: u32,
+}
+
+/// The function of a list of a device, by the list's position.
+#[derive(Clone, Copy)]
+pub(crate) struct KnownList {
+    pub(crate) position: usize,
+    pub(crate) function: u32,
+}
+
+/// The functions of a device.
+#[derive(Drop)]
+pub struct DeviceForm {
+    /// By the positions of its interfaces.
+    pub seats: Vec<SeatForm>,
+    /// The number of the translation rule that applies from outside; no value where none does.
+    pub outside: u32,
+    /// The number of the rule that applies from inside.
+    pub inside: u32,
+    /// The number of the fate of the destination.
+    pub fates: u32,
+}
+
+/// A network with the forms of its devices.
+#[derive(Drop)]
+pub struct NetworkForm<'a> {
+    /// The network.
+    pub world: WorldRef<'a>,
+    /// By the positions of its devices.
+    pub devices: Vec<DeviceForm>,
+    /// Its links.
+    pub wiring: Wiring<'a>,
+}

@@ -1,0 +1,111 @@
+use crate::Version;
+use crate::compile::compile_network;
+use crate::forms::{NetworkForm, Tables};
+use crate::seat::{CompiledSeat, seat_at};
+use indexmap::IndexSet;
+use like_devices::{alike_beyond_input, has_name, like_devices};
+use net_types::{NoMemory, Place};
+use net_view::WorldRef;
+use std::alloc::Global;
+use std::marker::Model;
+
+/// Two networks over the same links, compiled in one table. For the questions that ask one network both are that one.
+#[derive(Drop)]
+pub struct Prepared<'a> {
+    tables: Tables,
+    old: NetworkForm<'a>,
+    new: NetworkForm<'a>,
+    /// The names of devices that are known to do the same in both.
+    like: IndexSet<u32>,
+    /// The names of devices that are known to do the same in both with whatever their input lists let in.
+    beyond_input: IndexSet<u32>,
+}
+
+impl<'a> Model for Prepared<'a> {
+    ghost use Rattle.net_view.specs.Borrowed.{world_of};
+    ghost use Rattle.net_forms.specs.Networks.{ArePrepared};
+    ghost use Rattle.net_forms.specs.Worlds.{Worlds};
+
+    ghost Value = { Worlds };
+
+    ghost view = { λ p. record { old = world_of p.old.world; new = world_of p.new.world } };
+
+    ghost invariant = { λ p. ArePrepared p.tables p.old p.new p.like.keys p.beyond_input.keys };
+}
+
+/// The forms of two networks, in one table.
+#[derive(Clone, Copy)]
+pub struct PreparedForms<'a> {
+    pub tables: &'a Tables,
+    pub old: &'a NetworkForm<'a>,
+    pub new: &'a NetworkForm<'a>,
+}
+
+impl<'a> Prepared<'a> {
+    ghost use Rattle.std.specs.Prelude.{◌≡◌, true, IfOk, IfSome, option_map};
+    ghost use Rattle.net_view.specs.Borrowed.{seat_of, world_of};
+    ghost use Rattle.like_devices.specs.Like.{IsLike, IsLikeBeyondInput};
+    ghost use Rattle.net_types.specs.World.{seat_at};
+    ghost use Rattle.net_forms.specs.Pairs.{ArePreparedForms};
+    ghost use Rattle.net_forms.specs.Seats.{StandsIn};
+    ghost use Rattle.net_forms.specs.Worlds.{world_in};
+
+    /// Compiles two networks.
+    ///
+    /// # Errors
+    ///
+    /// There was no memory, or a device lacks the number of an interface.
+    pub fn of(alloc: Global, old: WorldRef<'a>, new: WorldRef<'a>) -> Result<Prepared<'a>, NoMemory>
+        ensures { IfOk result (λ p. p ≡ record { old = world_of old.entry; new = world_of new.entry }) }
+    {
+        let mut tables = Tables::new(alloc)?;
+        let before = compile_network(alloc, &mut tables, old, None)?;
+        let known = Some(&before);
+        let after = compile_network(alloc, &mut tables, new, known)?;
+        let like = like_devices(alloc, old, new, &before.wiring, &after.wiring)?;
+        let beyond_input = alike_beyond_input(alloc, old, new, &before.wiring, &after.wiring)?;
+        Ok(Prepared {
+            tables,
+            old: before,
+            new: after,
+            like,
+            beyond_input,
+        })
+    }
+
+    /// Both networks as they are compiled, for whoever asks their functions.
+    pub fn forms<'b>(&'b self) -> PreparedForms<'b>
+        ensures { ArePreparedForms self.now result }
+    {
+        PreparedForms {
+            tables: &self.tables,
+            old: &self.old,
+            new: &self.new,
+        }
+    }
+
+    /// What stands at a place in one of the networks.
+    pub fn seat_at<'b>(&'b self, version: Version, place: Place) -> Option<CompiledSeat<'b>>
+        ensures seat { option_map (λ s. seat_of s.seat) result ≡ seat_at (world_in self.now version) place }
+        ensures stands { IfSome result (StandsIn (world_in self.now version)) }
+    {
+        match version {
+            Version::Old => seat_at(&self.tables, &self.old, place),
+            Version::New => seat_at(&self.tables, &self.new, place),
+        }
+    }
+
+    /// Whether the device of this name is known to do the same in both networks. A false answer says nothing.
+    pub fn is_alike(&self, name: u32) -> bool
+        ensures { result ≡ true → IsLike self.now.old self.now.new name }
+    {
+        has_name(&self.like, name)
+    }
+
+    /// Whether it is known to do so with whatever its input lists let in. A false answer says nothing.
+    pub fn is_alike_beyond_input(&self, name: u32) -> bool
+        ensures { result ≡ true → IsLikeBeyondInput self.now.old self.now.new name }
+    {
+        has_name(&self.beyond_input, name)
+    }
+}

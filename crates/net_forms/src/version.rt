@@ -1,0 +1,6 @@
+/// Which of two networks is meant.
+#[derive(Clone, Copy, Debug, PartialEq, Eq)]
+pub enum Version {
+    Old,
+    New,
+}

@@ -1,0 +1,35 @@
+//! Headers, cubes, rows and diagrams in small cases. A cube is written by its last eight bits, the flags of a header:
+//! all earlier ones are `*`. What each line must say follows from the rules.
+#![tactic(auto)]
+
+mod diagrams;
+mod headers;
+mod pieces;
+mod rows;
+mod sets;
+mod stamps;
+mod stop;
+mod text;
+
+use crate::stop::Stop;
+use std::io;
+
+fn show_all(rt: &HostRuntime) -> Result<(), Stop> {
+    headers::show_headers(rt)?;
+    headers::show_cubes(rt)?;
+    pieces::show_pairs(rt)?;
+    pieces::show_rests(rt)?;
+    pieces::show_cuts(rt)?;
+    stamps::show(rt)?;
+    rows::show(rt)?;
+    diagrams::show(rt)?;
+    sets::show(rt)
+}
+
+fn main(rt: HostRuntime) -> io::Result<()> {
+    match show_all(&rt) {
+        Ok(()) => Ok(()),
+        Err(Stop::NoMemory) => println!(rt; "no memory"),
+        Err(Stop::Output { error }) => Err(error),
+    }
+}

@@ -1,0 +1,87 @@
+//! Canonical rows: a bit is `*` exactly where flipping it never changes the value, among all headers that agree with
+//! the earlier bits.
+
+use crate::stop::Stop;
+use crate::text::{cube, digits};
+use canon_rows::laws::{
+    pieces_give_values, rows_are_constant, rows_are_disjoint, rows_are_one_list, rows_cover,
+    rows_follow_differences,
+};
+use canon_rows::recursion::canon_by_recursion;
+use canon_rows::{Piece, canon};
+
+struct Case {
+    shows: &'static str,
+    pieces: &'static [(&'static str, u64)],
+}
+
+const CASES: [Case; 8] = [
+    Case {
+        shows: "no piece",
+        pieces: &[],
+    },
+    Case {
+        shows: "all headers",
+        pieces: &[("********", 4)],
+    },
+    Case {
+        shows: "two halves of one value",
+        pieces: &[("0000101*", 7), ("0000100*", 7)],
+    },
+    Case {
+        shows: "two halves of two values",
+        pieces: &[("0000101*", 8), ("0000100*", 7)],
+    },
+    Case {
+        shows: "the first piece decides",
+        pieces: &[("00001001", 1), ("0000100*", 2)],
+    },
+    Case {
+        shows: "a piece within one of its value",
+        pieces: &[("***10000", 5), ("********", 5)],
+    },
+    Case {
+        shows: "an early bit that doesn't matter",
+        pieces: &[("0**1****", 3), ("1**1****", 3)],
+    },
+    Case {
+        shows: "a later piece is cut where an early bit matters",
+        pieces: &[("1**1****", 3), ("***1***1", 3)],
+    },
+];
+
+/// The rows of each case, as the table and as the plain recursion make them.
+pub(crate) fn show(rt: &HostRuntime) -> Result<(), Stop> {
+    let alloc = rt.alloc();
+    for case in &CASES {
+        let mut pieces = Vec::new(alloc);
+        for (digits, value) in case.pieces {
+            pieces.push(Piece {
+                cube: cube(digits),
+                value: *value,
+            })?;
+        }
+        let rows = canon(alloc, &pieces)?;
+        let again = canon_by_recursion(alloc, &pieces)?;
+        println!(rt;
+            "{}: {}",
+            case.shows,
+            if rows == again { "both" } else { "?" }
+        )?;
+        for row in &rows {
+            println!(rt; "  {} {}", digits(alloc, &row.cube)?, row.value)?;
+        }
+    }
+    call_laws();
+    Ok(())
+}
+
+// Each law at one type.
+fn call_laws() {
+    pieces_give_values();
+    rows_are_constant::<Vec<Piece>>();
+    rows_are_disjoint::<Vec<Piece>>();
+    rows_are_one_list::<Vec<Piece>>();
+    rows_cover::<Vec<Piece>>();
+    rows_follow_differences::<Vec<Piece>, Vec<Piece>>();
+}

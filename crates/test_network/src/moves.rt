@@ -1,0 +1,138 @@
+//! The moves of single headers, as the list of a place has them.
+
+use crate::networks::{Networks, Plan, at};
+use crate::tables::{ip, secure, web};
+use device_transfers::Transfer;
+use hdr_bits::Header;
+use net_types::{Move, Place};
+use std::io;
+use transfer_rel::{Prepared, Version};
+
+// A header that arrives at a place.
+#[derive(Clone, Copy)]
+struct Case {
+    name: &'static str,
+    plan: Plan,
+    place: Place,
+    header: Header,
+}
+
+fn arriving(name: &'static str, plan: Plan, place: Place, header: Header) -> Case {
+    Case {
+        name,
+        plan,
+        place,
+        header,
+    }
+}
+
+/// Prints the moves of each case in order.
+pub(crate) fn show(rt: &HostRuntime) -> io::Result<()> {
+    let host = ip(10, 0, 0, 9);
+    let inside = web(ip(10, 0, 0, 5), ip(10, 9, 0, 2));
+    let global = web(ip(203, 0, 113, 5), ip(10, 9, 0, 2));
+    let denied = web(ip(10, 0, 1, 5), ip(10, 9, 0, 2));
+    let to_link = web(host, ip(10, 0, 1, 2));
+    let to_router = web(host, ip(10, 0, 1, 1));
+    let to_choices = web(host, ip(192, 168, 0, 7));
+    let served = secure(ip(198, 51, 100, 2));
+    let cases = [
+        arriving(
+            "out of the other interface",
+            Plan::TwoLinks,
+            at(0, 0),
+            to_link,
+        ),
+        arriving("for the device itself", Plan::TwoLinks, at(0, 0), to_router),
+        arriving(
+            "one of two choices is stopped",
+            Plan::StoppedChoice,
+            at(0, 0),
+            to_choices,
+        ),
+        arriving(
+            "the source is translated",
+            Plan::TranslatedTwice,
+            at(0, 0),
+            inside,
+        ),
+        arriving("and back", Plan::TranslatedTwice, at(1, 0), global),
+        arriving(
+            "a source that the list denies",
+            Plan::TranslatedTwice,
+            at(0, 0),
+            denied,
+        ),
+        arriving("the end is shut down", Plan::ShutEnd, at(0, 0), to_link),
+        arriving(
+            "the destination is translated",
+            Plan::Office,
+            at(0, 1),
+            served,
+        ),
+        arriving("no such place", Plan::Office, at(7, 0), served),
+    ];
+    for case in &cases {
+        let name = case.name;
+        println!(rt; "{name}:")?;
+        show_case(rt, case)?;
+    }
+    Ok(())
+}
+
+fn show_case(rt: &HostRuntime, case: &Case) -> io::Result<()> {
+    match Networks::of(rt.alloc(), case.plan) {
+        Some(networks) => show_networks(rt, case, &networks),
+        None => println!(rt; "  no network"),
+    }
+}
+
+fn show_networks(rt: &HostRuntime, case: &Case, networks: &Networks) -> io::Result<()> {
+    match Prepared::of(rt.alloc(), networks.old(), networks.new()) {
+        Ok(prepared) => show_prepared(rt, case, &prepared),
+        Err(_) => println!(rt; "  no memory"),
+    }
+}
+
+fn show_prepared(rt: &HostRuntime, case: &Case, prepared: &Prepared) -> io::Result<()> {
+    match Transfer::of(rt.alloc(), prepared, Version::Old, case.place) {
+        Ok(transfer) => show_transfer(rt, case, &transfer),
+        Err(_) => println!(rt; "  no memory"),
+    }
+}
+
+fn show_transfer(rt: &HostRuntime, case: &Case, transfer: &Transfer) -> io::Result<()> {
+    match transfer.moves(rt.alloc(), &case.header) {
+        Ok(moves) => show_moves(rt, &moves),
+        Err(_) => println!(rt; "  no memory"),
+    }
+}
+
+fn show_moves(rt: &HostRuntime, moves: &[Move]) -> io::Result<()> {
+    for one in moves {
+        show_move(rt, one)?;
+    }
+    Ok(())
+}
+
+fn show_move(rt: &HostRuntime, one: &Move) -> io::Result<()> {
+    match one {
+        Move::Drop => println!(rt; "  dropped"),
+        Move::Lost => println!(rt; "  lost"),
+        Move::Local { place } => show_sent(rt, "local", *place, None),
+        Move::Exit { place, header } => show_sent(rt, "exit", *place, Some(*header)),
+        Move::Go { place, header } => show_sent(rt, "go to", *place, Some(*header)),
+    }
+}
+
+// With the bytes of the addresses with which it goes on.
+fn show_sent(rt: &HostRuntime, word: &str, place: Place, header: Option<Header>) -> io::Result<()> {
+    let device = place.device;
+    let interface = place.interface;
+    let Some(header) = header else {
+        return println!(rt; "  {word} {device}.{interface}");
+    };
+    let src = header.src.to_be_bytes();
+    let dst = header.dst.to_be_bytes();
+    println!(rt; "  {word} {device}.{interface} from {src:?} to {dst:?}")
+}

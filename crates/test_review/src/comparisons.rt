@@ -1,0 +1,39 @@
+//! The cases of the file `comparisons`: each a line `== NAME` and its files, each a line `-- PATH` and its lines. There are
+//! always the folders `old` and `new`.
+
+use crate::runs::{COMPARE, show_run};
+use crate::stop::Stop;
+use net_io::MemFiles;
+use std::alloc::Global;
+use std::fs;
+
+pub(crate) fn show(rt: &HostRuntime) -> Result<(), Stop> {
+    let cases = fs::read_to_string(rt, "comparisons")?;
+    for case in cases.as_str().split("== ").skip(1) {
+        show_case(rt, case)?;
+    }
+    Ok(())
+}
+
+fn show_case(rt: &HostRuntime, case: &str) -> Result<(), Stop> {
+    let (name, given) = case.split_once('\n').unwrap_or((case, ""));
+    println!(rt; "== {name}")?;
+    let mut files = files_of(rt.alloc(), given)?;
+    show_run(rt, &mut files, &COMPARE, 10_000)
+}
+
+fn files_of(alloc: Global, given: &str) -> Result<MemFiles, Stop> {
+    let mut files = MemFiles::new(alloc)?;
+    files.folder("old")?;
+    files.folder("new")?;
+    for file in given.split("-- ").skip(1) {
+        put(&mut files, file)?;
+    }
+    Ok(files)
+}
+
+fn put(files: &mut MemFiles, file: &str) -> Result<(), Stop> {
+    let (path, text) = file.split_once('\n').unwrap_or((file, ""));
+    files.put(path, text.as_bytes())?;
+    Ok(())
+}

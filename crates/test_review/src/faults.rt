@@ -1,0 +1,49 @@
+//! Words that are no command, outputs without room, and reads that fail.
+
+use crate::runs::{COMPARE, INGRESS_SHUT, TWO_LINKS, one_each, show_run};
+use crate::stop::Stop;
+
+/// Words that are no command, and folders that aren't there.
+pub(crate) fn show_words(rt: &HostRuntime) -> Result<(), Stop> {
+    let cases: [&[&str]; 8] = [
+        &[],
+        &["compare", "old", "new"],
+        &["compare", "old", "-", "links"],
+        &["compare", "old", "", "links"],
+        &["compare", "old", "new", "links", "more"],
+        &["--help"],
+        &["compare", "none", "missing", "links"],
+        &["compare", "old", "none", "missing"],
+    ];
+    let mut files = one_each(rt.alloc(), TWO_LINKS, INGRESS_SHUT)?;
+    for words in cases {
+        println!(rt; "== {words:?}")?;
+        show_run(rt, &mut files, words, 100)?;
+    }
+    Ok(())
+}
+
+/// The report has 533 bytes.
+pub(crate) fn show_rooms(rt: &HostRuntime) -> Result<(), Stop> {
+    let mut files = one_each(rt.alloc(), TWO_LINKS, INGRESS_SHUT)?;
+    for room in [0, 100, 532, 533] {
+        println!(rt; "== room for {room}")?;
+        show_run(rt, &mut files, &COMPARE, room)?;
+    }
+    Ok(())
+}
+
+/// The calls are two listings and two reads of each of three files.
+pub(crate) fn show_faults(rt: &HostRuntime) -> Result<(), Stop> {
+    for call in 0..9 {
+        println!(rt; "== call {call} fails")?;
+        show_fault(rt, call)?;
+    }
+    Ok(())
+}
+
+fn show_fault(rt: &HostRuntime, call: u64) -> Result<(), Stop> {
+    let mut files = one_each(rt.alloc(), TWO_LINKS, TWO_LINKS)?;
+    files.fail_at(call);
+    show_run(rt, &mut files, &COMPARE, 100)
+}
