@@ -3,6 +3,12 @@
 
     networks.py chain FOLDER N            a chain of N routers whose first one permits other ports in the new network
     networks.py fabric FOLDER S L         S spines and L leaves with equal-cost routes, all leaves as ingresses; a route is changed
+    networks.py leaves FOLDER S L         S spines and L leaves, a route to each subnet on each device; a spine loses one
+    networks.py layers FOLDER C P A L     C cores, P pods of A aggregations and L leaves, a route to each subnet on each device; a
+                                          core loses one
+    networks.py ring FOLDER N             N routers in a ring, each with a default route to the next; one of them loses its subnet
+    networks.py device FOLDER R E RULES   a device with R routes, a list of E entries and RULES translation rules; a route is changed
+    networks.py folders FOLDER N          N devices of ten interfaces that have nothing to do with one another; nothing is changed
     networks.py list FOLDER N PERCENT     a device with a list of N generated entries, one of which is changed; of a hundred
                                           entries PERCENT have any source, and as many any destination
 """
@@ -86,6 +92,149 @@ def fabric(folder, spines, leaves):
     write_links(folder, links + ["ingress Leaf%d Ethernet0" % l for l in range(1, leaves + 1)])
 
 
+def dotted(number):
+    return ".".join(str(number >> shift & 255) for shift in (24, 16, 8, 0))
+
+
+def subnet(i):
+    """The subnet of the i-th leaf, of 24 bits, without its last number."""
+    return "10.%d.%d" % (64 + i // 256, i % 256)
+
+
+class Wires:
+    """Links of 30 bits, numbered from 172.16.0.0 on, and the interfaces that they make."""
+
+    def __init__(self):
+        self.interfaces = {}
+        self.lines = []
+
+    def link(self, one, its, other, others):
+        """The addresses of the two ends."""
+        base = (172 << 24 | 16 << 16) + 4 * len(self.lines)
+        ends = dotted(base + 1), dotted(base + 2)
+        self.interfaces.setdefault(one, []).append((its, ends[0]))
+        self.interfaces.setdefault(other, []).append((others, ends[1]))
+        self.lines.append("p2p %s %s %s %s" % (one, its, other, others))
+        return ends
+
+    def device(self, name, routes, own=None):
+        lines = []
+        for interface, address in self.interfaces.get(name, []):
+            lines += ["interface " + interface, " ip address %s 255.255.255.252" % address]
+        if own:
+            lines += ["interface Ethernet0", " ip address %s.1 255.255.255.0" % own]
+        return lines + routes
+
+
+def route(i, hop):
+    return "ip route %s.0 255.255.255.0 %s" % (subnet(i), hop)
+
+
+def leaves(folder, spines, count):
+    """Leaf l sends what is for leaf m to spine m modulo S. In the new network the spine of the last leaf drops what is for it."""
+    wires = Wires()
+    ends = {(l, s): wires.link("Leaf%d" % l, "Up%d" % s, "Spine%d" % s, "Down%d" % l) for l in range(count) for s in range(spines)}
+    for version in ("old", "new"):
+        devices = {}
+        for l in range(count):
+            routes = [route(m, ends[l, m % spines][1]) for m in range(count) if m != l]
+            devices["Leaf%d" % l] = wires.device("Leaf%d" % l, routes, subnet(l))
+        for s in range(spines):
+            routes = [route(m, ends[m, s][0]) for m in range(count)]
+            if version == "new" and s == (count - 1) % spines:
+                routes[-1] = route(count - 1, "Null0")
+            devices["Spine%d" % s] = wires.device("Spine%d" % s, routes)
+        write(folder, version, devices)
+    write_links(folder, wires.lines + ["ingress Leaf0 Ethernet0", "ingress Leaf%d Ethernet0" % (count // 2)])
+
+
+def layers(folder, cores, pods, aggregations, per_pod):
+    """A leaf sends the i-th subnet to the aggregation i modulo A, and that to the core i modulo C. In the new network a core drops
+    what is for the last leaf."""
+    wires = Wires()
+    all_leaves = [(p, l) for p in range(pods) for l in range(per_pod)]
+    leaf, aggregation, core = "Leaf%d_%d", "Aggregation%d_%d", "Core%d"
+    below, above = {}, {}
+    for p in range(pods):
+        for l in range(per_pod):
+            for a in range(aggregations):
+                ends = wires.link(leaf % (p, l), "Up%d" % a, aggregation % (p, a), "Down%d" % l)
+                below[p, l, a] = ends
+        for a in range(aggregations):
+            for c in range(cores):
+                above[p, a, c] = wires.link(aggregation % (p, a), "Up%d" % c, core % c, "Pod%d_%d" % (p, a))
+    last = len(all_leaves) - 1
+    for version in ("old", "new"):
+        devices = {}
+        for own, (p, l) in enumerate(all_leaves):
+            routes = [route(i, below[p, l, i % aggregations][1]) for i in range(len(all_leaves)) if i != own]
+            devices[leaf % (p, l)] = wires.device(leaf % (p, l), routes, subnet(own))
+        for p in range(pods):
+            for a in range(aggregations):
+                routes = [
+                    route(i, below[q, m, a][0] if q == p else above[p, a, i % cores][1])
+                    for i, (q, m) in enumerate(all_leaves)
+                ]
+                devices[aggregation % (p, a)] = wires.device(aggregation % (p, a), routes)
+        for c in range(cores):
+            routes = [route(i, above[q, i % aggregations, c][0]) for i, (q, _) in enumerate(all_leaves)]
+            if version == "new" and c == last % cores:
+                routes[-1] = route(last, "Null0")
+            devices[core % c] = wires.device(core % c, routes)
+        write(folder, version, devices)
+    middle = all_leaves[len(all_leaves) // 2]
+    write_links(folder, wires.lines + ["ingress Leaf0_0 Ethernet0", "ingress Leaf%d_%d Ethernet0" % middle])
+
+
+def ring(folder, n):
+    """Router k has the subnet of leaf k and a default route to router k + 1, so what is for nobody goes round for ever."""
+    wires = Wires()
+    ends = [wires.link("R%d" % k, "Next", "R%d" % ((k + 1) % n), "Last") for k in range(n)]
+    for version in ("old", "new"):
+        devices = {}
+        for k in range(n):
+            own = None if version == "new" and k == n // 2 else subnet(k)
+            devices["R%d" % k] = wires.device("R%d" % k, ["ip route 0.0.0.0 0.0.0.0 %s" % ends[k][1]], own)
+        write(folder, version, devices)
+    write_links(folder, wires.lines + ["ingress R0 Ethernet0"])
+
+
+def device(folder, routes, entries, rules):
+    """Routes of 20 to 32 bits by four connected subnets, and one in eight by a next hop that is looked up in turn."""
+    random_ = random.Random(11)
+    lines = []
+    for i in range(4):
+        lines += ["interface Ethernet%d" % i, " ip address 10.0.%d.1 255.255.255.0" % i]
+        lines += [" ip access-group 101 in", " ip nat outside"] if i == 0 else [" ip nat inside"]
+    lines += ["ip route 172.16.0.0 255.255.0.0 10.0.1.2"]
+    for i in range(routes):
+        length = random_.randint(20, 32)
+        wild = 2 ** (32 - length) - 1
+        hop = "172.16.%d.1" % random_.randrange(256) if i % 8 == 0 else "10.0.%d.%d" % (i % 4, 2 + random_.randrange(250))
+        lines.append("ip route %s %s %s" % (dotted(random_.getrandbits(32) & ~wild), dotted(2**32 - 1 & ~wild), hop))
+    lines += ["access-list 101 " + entry(random_, 0) for _ in range(entries)]
+    lines += ["access-list 101 permit ip any any"] if entries else []
+    for i in range(rules):
+        inside, outside = "10.0.1.%d" % (2 + i % 250), "203.0.%d.%d" % (i // 250, 1 + i % 250)
+        lines.append("ip nat inside source static tcp %s %d %s %d" % (inside, 1024 + i // 250, outside, 2000 + i))
+    write(folder, "old", {"R1": lines})
+    write(folder, "new", {"R1": lines + ["ip route 198.51.100.0 255.255.255.0 10.0.3.9"]})
+    write_links(folder, ["ingress R1 Ethernet0", "ingress R1 Ethernet1"])
+
+
+def folders(folder, n):
+    devices = {}
+    for k in range(n):
+        lines = []
+        for i in range(10):
+            lines += ["interface Ethernet%d" % i, " ip address %d.%d.%d.1 255.255.255.0" % (1 + k // 256, k % 256, i)]
+        devices["R%d" % k] = lines
+    for version in ("old", "new"):
+        write(folder, version, devices)
+    links = ["p2p R%d Ethernet%d R%d Ethernet%d" % (k, i, k + 1, i + 1) for k in range(n - 1) for i in (0, 2, 4)]
+    write_links(folder, links + ["ingress R0 Ethernet0"])
+
+
 def entry(random_, percent):
     def address():
         if random_.random() * 100 < percent:
@@ -93,7 +242,6 @@ def entry(random_, percent):
         length = random_.randint(24, 32)
         value = 10 << 24 | random_.getrandbits(24)
         wild = 2 ** (32 - length) - 1
-        dotted = lambda a: ".".join(str(a >> s & 255) for s in (24, 16, 8, 0))
         return "%s %s" % (dotted(value & ~wild), dotted(wild))
 
     def port():
@@ -125,7 +273,9 @@ def one_list(folder, n, percent):
 
 def main():
     kind, folder, *numbers = sys.argv[1:]
-    {"chain": chain, "fabric": fabric, "list": one_list}[kind](folder, *map(int, numbers))
+    shapes = {"list": one_list}
+    shapes.update((shape.__name__, shape) for shape in (chain, fabric, leaves, layers, ring, device, folders))
+    shapes[kind](folder, *map(int, numbers))
 
 
 if __name__ == "__main__":
