@@ -1,0 +1,4 @@
+pub mod Chains
+pub mod Shared
+pub mod Values
+pub mod Links

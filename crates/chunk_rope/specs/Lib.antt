@@ -1,0 +1,4 @@
+pub mod Owned
+pub mod Linked
+pub mod Shown
+pub mod Walked
