@@ -1,0 +1,9 @@
+-- What the splitter of the benchmark gives.
+use Rattle.std.specs.Prelude.{ℕ, ◌≡◌, Option, Some, Bool, true, refl}
+
+-- each header has the number of its slot
+abbrev pub slot_of : {S : Type 0} → S → ℕ → ℕ → Option ℕ
+slot_of s slot h = Some slot
+
+abbrev pub slots_same : {S : Type 0} (eq : S → S → Bool) (a b : S) → eq a b ≡ true → (slot h : ℕ) → slot_of a slot h ≡ slot_of b slot h
+slots_same eq a b e slot h = refl

@@ -1,0 +1,9 @@
+pub mod PathLemmas
+pub mod Steps
+pub mod Bundles
+pub mod Seen
+pub mod Once
+pub mod PieceLemmas
+pub mod PushLemmas
+pub mod HalfLemmas
+pub mod RootLemmas

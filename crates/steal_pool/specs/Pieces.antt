@@ -1,0 +1,18 @@
+-- The pieces of a region: what was added by the work on one part of it.
+use Rattle.std.specs.Prelude.{ℕ, ◌≡◌, ◌+◌, ◌≤◌, List, ◌++◌, length, Option}
+use Rattle.chunk_rope.specs.Shown.{Shown}
+use Rattle.cube_alg.specs.declared.Region.{Region}
+use Rattle.task_board.specs.declared.leaf.Leaf.{Leaf}
+use Rattle.task_board.specs.declared.leaf.Part.{Part}
+use Rattle.task_board.specs.Stands.{IsWorked}
+
+-- so many leaves and parts were added, which the region was worked to, and the rope has room for all but those leaves
+pub record AddsWork {V : Type 0} (gives : ℕ → ℕ → Option V) (region : Region) (old new : Shown (Leaf V)) (open_before open_after : List Part) (count : ℕ) : Type 0 where
+  pub leaves : List (Leaf V)
+  pub parts : List Part
+  pub worked : IsWorked gives region leaves parts
+  pub finished : new.items ≡ old.items ++ leaves
+  pub rest : open_after ≡ open_before ++ parts
+  pub counted : count ≡ length leaves + length parts
+  pub few : count ≤ 113
+  pub room : old.spare ≤ new.spare + length leaves

@@ -1,0 +1,208 @@
+//! Workers, each with a lane of its own and a thief of every other, and the call that starts and joins them.
+ghost use Rattle.std.specs.Prelude.{◌≡◌, ◌<◌, ◌≤◌, ◌^◌, IfOk, AllPairs, length, vec_len};
+ghost use Rattle.task_board.specs.Regions.{LieApart};
+ghost use Rattle.task_board.specs.Stands.{Answers};
+
+use crate::ends::{Owner, Thief, lane};
+use crate::gate::Gate;
+use crate::plan::{Call, CallMeaning, Plan};
+use crate::pool::{Pool, take_turn};
+use crate::rule::Task;
+use crate::settling::finish;
+use crate::splitter::Splitter;
+use chunk_rope::Rope;
+use cube_alg::Region;
+use no_memory::NoMemory;
+use std::alloc::Global;
+use std::marker::Brand;
+use std::sync::Wait;
+use std::thread;
+use std::thread::Threads;
+use task_board::{Board, Leaf};
+
+// How many regions can be pushed to one lane.
+const CAPACITY: usize = 16_384;
+
+// In so many rounds one thief is split into 64.
+const ROUNDS: u32 = 6;
+
+// What a worker holds: the owner of its lane, and a thief of each lane.
+#[derive(Drop)]
+struct Seat {
+    owner: Owner,
+    thieves: Vec<Thief>,
+    number: usize,
+}
+
+impl Seat {
+    // The first task of its own lane, or of the next lane in turn that has one.
+    fn try_next<R: Wait>(&mut self, rt: &R) -> Option<Task> {
+        if let Some(task) = self.owner.take() {
+            return Some(task);
+        }
+        let lanes = self.thieves.len();
+        for i in 1..lanes {
+            let at = self.number.wrapping_add(i) % lanes;
+            if let Some(task) = self.thieves[at].steal(rt) {
+                return Some(task);
+            }
+        }
+        None
+    }
+
+    // The next task. Where there is none in any lane it waits, until one is pushed or none is left to wait for.
+    fn next<V: Send + Drop, K: Call<V>, R: Wait>(
+        &mut self,
+        rt: &R,
+        pool: &Pool<V, K>,
+    ) -> Option<Task> {
+        for _ in rt.forever() {
+            if let Some(task) = self.try_next(rt) {
+                return Some(task);
+            }
+            // A task that is pushed from here on counts as a move, so the wait doesn't miss it.
+            let moves = pool.moves(rt);
+            if let Some(task) = self.try_next(rt) {
+                return Some(task);
+            }
+            if pool.is_done_after(rt, moves) {
+                return None;
+            }
+        }
+        unreachable!()
+    }
+}
+
+// So many thieves of a lane. Each is split once a round, so that none is split more often than it can be.
+fn crowd(alloc: Global, first: Thief, count: usize) -> Result<Vec<Thief>, NoMemory> {
+    let mut thieves = Vec::new(alloc);
+    thieves.push(first)?;
+    for _ in 0..ROUNDS {
+        for i in 0..thieves.len() {
+            if thieves.len() < count {
+                let second = thieves[i].split()?;
+                thieves.push(second)?;
+            }
+        }
+    }
+    Ok(thieves)
+}
+
+// A seat for each worker.
+fn seats(alloc: Global, count: usize) -> Result<Vec<Seat>, NoMemory>
+    ensures { IfOk result (λ v. vec_len v ≡ count) }
+{
+    let mut seats = Vec::new(alloc);
+    let mut crowds = Vec::new(alloc);
+    for number in 0..count {
+        let (owner, first) = lane(alloc, CAPACITY)?;
+        seats.push(Seat {
+            owner,
+            thieves: Vec::new(alloc),
+            number,
+        })?;
+        crowds.push(crowd(alloc, first, count)?)?;
+    }
+    for i in 0..crowds.len() {
+        for k in 0..seats.len() {
+            if let Some(thief) = crowds[i].pop() {
+                seats[k].thieves.push(thief)?;
+            }
+        }
+    }
+    Ok(seats)
+}
+
+// Pushes the open regions in the order of their tickets, the k-th to lane k modulo the number of lanes, and answers how
+// many the lanes took.
+fn hand_out<V: Send + Drop, K: Call<V>>(board: &Board<CallMeaning<V, K>>, seats: &mut [Seat]) -> u64
+    requires { 0 < length seats.old }
+{
+    let mut pushed: u64 = 0;
+    let mut from = 0;
+    for k in 0..board.open_count() {
+        let Some(part) = board.next_open(from) else {
+            break;
+        };
+        let at = k % seats.len();
+        if seats[at].owner.push(part.ticket, part.region).is_ok() {
+            pushed = pushed.saturating_add(1);
+        }
+        from = part.ticket.saturating_add(1);
+    }
+    pushed
+}
+
+// Takes tasks, and works on each behind the gate, until none is left or there is no memory.
+fn work<S: Splitter, K: Call<S::Value>, G: Gate, R: Wait>(
+    rt: &R,
+    alloc: Global,
+    pool: &Pool<S::Value, K>,
+    plan: &Plan<S, K>,
+    gate: &G,
+    mut seat: Seat,
+) -> Seat {
+    for _ in rt.forever() {
+        let Some(task) = seat.next(rt, pool) else {
+            return seat;
+        };
+        gate.pass(task.ticket);
+        if take_turn(rt, alloc, pool, plan, &mut seat.owner, task).is_err() {
+            return seat;
+        }
+    }
+    unreachable!()
+}
+
+// The call, whose splitter and roots its types name.
+fn run_as<
+    S: Splitter + Send + Sync,
+    K: Call<S::Value> + Send + Sync,
+    G: Gate + Sync,
+    R: Threads + Wait + Sync,
+>(
+    rt: &R,
+    alloc: Global,
+    roots: &[Region],
+    splitter: S,
+    workers: u32,
+    gate: &G,
+) -> Result<Rope<Leaf<S::Value>>, NoMemory>
+    requires workers { (1 ≤ workers) × (workers ≤ 64) }
+    requires apart { AllPairs LieApart roots.now }
+    requires few { length roots.now < 2 ^ 32 }
+    requires gives { K.gives ≡ S.gives splitter }
+    requires roots { K.roots ≡ roots.now }
+    ensures { IfOk result (λ r. Answers K.gives roots.now r.items) }
+{
+    let plan: Plan<S, K> = Plan::of(splitter);
+    let board = Board::open_all(alloc, CallMeaning::new(), roots)?;
+    let mut seats = seats(alloc, workers as usize)?;
+    let tasks = hand_out(&board, seats.as_mut_slice());
+    let pool = Pool::of(board, tasks);
+    let shared = &pool;
+    let by = &plan;
+    let _ = thread::map_vec(rt, seats, &|seat| work(rt, alloc, shared, by, gate, seat));
+    finish(rt, alloc, &plan, pool.into_board())
+}
+
+/// Works all roots down to leaves, by 1 to 64 workers.
+///
+/// The leaves are pairwise disjoint, each is inside a root, each has the splitter's value of all its headers, and no
+/// header of a root outside them has a value. A worker passes the gate before it works on a task. What the workers leave
+/// for want of memory, the calling thread works on when they have ended, without the gate.
+pub fn run<S: Splitter + Send + Sync, G: Gate + Sync, R: Threads + Wait + Sync>(
+    rt: &R,
+    alloc: Global,
+    roots: &[Region],
+    splitter: S,
+    workers: u32,
+    gate: &G,
+) -> Result<Rope<Leaf<S::Value>>, NoMemory>
+    requires workers { (1 ≤ workers) × (workers ≤ 64) }
+    requires apart { AllPairs LieApart roots.now }
+    requires few { length roots.now < 2 ^ 32 }
+    ensures { IfOk result (λ r. Answers (S.gives splitter) roots.now r.items) }
+{
+    run_as::<S, Brand, G, R>(rt, alloc, roots, splitter, workers, gate)
+}

@@ -1,0 +1,109 @@
+//! Pools of workers, by the leaves that they find.
+
+use crate::gates::{Meeting, Relay};
+use crate::splitters::{Nothing, Slots, Stingy};
+use chunk_rope::Rope;
+use hdr_bits::Cube;
+use no_memory::NoMemory;
+use std::alloc::Global;
+use std::sync::Wait;
+use std::sync::atomic::AtomicU64;
+use std::thread::Threads;
+use steal_pool::{OpenGate, roots_of, run};
+use task_board::Leaf;
+
+/// Two roots that are each a leaf, for two workers, each of which waits for the other at the gate.
+pub fn met<R: Threads + Wait + Sync>(rt: &R, alloc: Global) -> Result<String, NoMemory> {
+    let roots = roots_of(alloc, &[Cube::all(), Cube::all()])?;
+    let gate = Meeting::new();
+    let leaves = run(rt, alloc, roots.as_slice(), Slots { depth: 0 }, 2, &gate)?;
+    let text = format!(in alloc;
+        "{} passed, {} gave up, {}",
+        gate.noted(),
+        gate.gave_up(),
+        counted(alloc, leaves)?
+    )?;
+    Ok(text)
+}
+
+/// One root in 512 parts, for two workers. The first turn leaves parts open in one lane, and the task that passes next
+/// waits for the other worker to steal one.
+pub fn shared<R: Threads + Wait + Sync>(rt: &R, alloc: Global) -> Result<String, NoMemory> {
+    let roots = roots_of(alloc, &[Cube::all()])?;
+    let gate = Relay::new();
+    let leaves = run(rt, alloc, roots.as_slice(), Slots { depth: 9 }, 2, &gate)?;
+    let text = format!(in alloc;
+        "{} passed, {} gave up, {}",
+        gate.passed(),
+        gate.gave_up(),
+        counted(alloc, leaves)?
+    )?;
+    Ok(text)
+}
+
+/// One root in which no header has a value.
+pub fn nothing<R: Threads + Wait + Sync>(
+    rt: &R,
+    alloc: Global,
+    workers: u32,
+) -> Result<String, NoMemory> {
+    let workers = workers.clamp(1, 64);
+    let roots = roots_of(alloc, &[Cube::all()])?;
+    let leaves = run(rt, alloc, roots.as_slice(), Nothing, workers, &OpenGate)?;
+    let text = format!(in alloc; "by {workers} workers {}", counted(alloc, leaves)?)?;
+    Ok(text)
+}
+
+/// So many roots, each in 2 to the `depth` parts.
+pub fn divided<R: Threads + Wait + Sync>(
+    rt: &R,
+    alloc: Global,
+    workers: u32,
+    roots: u16,
+    depth: u32,
+) -> Result<String, NoMemory> {
+    let workers = workers.clamp(1, 64);
+    let cubes = vec![in alloc; Cube::all(); usize::from(roots)]?;
+    let roots = roots_of(alloc, cubes.as_slice())?;
+    let leaves = run(
+        rt,
+        alloc,
+        roots.as_slice(),
+        Slots { depth },
+        workers,
+        &OpenGate,
+    )?;
+    let text = format!(in alloc; "by {workers} workers {}", counted(alloc, leaves)?)?;
+    Ok(text)
+}
+
+/// Two roots that are each a leaf, where the first calls of work are refused.
+pub fn refused<R: Threads + Wait + Sync>(
+    rt: &R,
+    alloc: Global,
+    refused: u64,
+) -> Result<String, NoMemory> {
+    let calls = AtomicU64::new(0);
+    let splitter = Stingy {
+        calls: &calls,
+        refused,
+    };
+    let roots = roots_of(alloc, &[Cube::all(), Cube::all()])?;
+    let leaves = run(rt, alloc, roots.as_slice(), splitter, 2, &OpenGate)?;
+    let text = format!(in alloc; "{refused} times {}", counted(alloc, leaves)?)?;
+    Ok(text)
+}
+
+// How many leaves there are, and how many of them have another value than their slot.
+fn counted(alloc: Global, leaves: Rope<Leaf<u64>>) -> Result<String, NoMemory> {
+    let mut count: u64 = 0;
+    let mut wrong: u64 = 0;
+    for leaf in leaves.cursor() {
+        count = count.saturating_add(1);
+        if leaf.value != u64::from(leaf.region.slot) {
+            wrong = wrong.saturating_add(1);
+        }
+    }
+    let text = format!(in alloc; "{count} leaves, {wrong} wrong")?;
+    Ok(text)
+}
