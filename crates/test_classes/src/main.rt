@@ -1,0 +1,80 @@
+//! Classes of labels that threads make in one store, in their order and in the reverse.
+//!
+//! Each line is a case: of all classes that the threads have made, how many give their label back, how many are the same
+//! as the class that the first thread has for it, and how many the same as its class for another label.
+#![tactic(auto)]
+
+mod compared;
+mod interned;
+mod labels;
+
+use compared::{Case, Compared, compare_all};
+use interned::intern_twice;
+use net_types::NoMemory;
+use std::io;
+
+/// The smallest store, stores in which windows overlap and labels stand alone, one that holds all, and the largest.
+const CASES: [Case; 7] = [
+    Case {
+        cells: 32,
+        labels: 1,
+        threads: 2,
+    },
+    Case {
+        cells: 32,
+        labels: 33,
+        threads: 2,
+    },
+    Case {
+        cells: 33,
+        labels: 100,
+        threads: 4,
+    },
+    Case {
+        cells: 32,
+        labels: 1000,
+        threads: 64,
+    },
+    Case {
+        cells: 1000,
+        labels: 1000,
+        threads: 64,
+    },
+    Case {
+        cells: 65536,
+        labels: 1000,
+        threads: 64,
+    },
+    Case {
+        cells: 1048576,
+        labels: 1,
+        threads: 1,
+    },
+];
+
+fn main(rt: HostRuntime) -> io::Result<()> {
+    let alloc = rt.alloc();
+    let same = intern_twice(&rt, alloc).map_err(out_of_memory)?;
+    println!(rt; "drop by two threads in 32 cells: same {same}")?;
+    for case in CASES {
+        let found = compare_all(&rt, alloc, case).map_err(out_of_memory)?;
+        let Case {
+            cells,
+            labels,
+            threads,
+        } = case;
+        let Compared {
+            read,
+            same,
+            confused,
+        } = found;
+        println!(rt;
+            "cells {cells} labels {labels} threads {threads}: read {read} same {same} confused {confused}"
+        )?;
+    }
+    Ok(())
+}
+
+fn out_of_memory(_: NoMemory) -> io::Error {
+    io::Error::from(io::ErrorKind::OutOfMemory)
+}
