@@ -1,0 +1,4 @@
+pub mod Prefixes
+pub mod Digits
+pub mod Walk
+pub mod Asked
