@@ -1,4 +1,4 @@
-use Rattle.std.proofs.Common.{ℕ, ◌≡◌, ◌<◌, ◌+◌, ◌-◌, ◌^◌, ◌≤◌, suc, ◌↔◌, inl, inr, List, [], ◌∷◌, ◌++◌, Some, None, refl, ap, sym, ◌∙◌, subst, arith, bit_and, All, AllPairs, slice_get}
+use Rattle.std.proofs.Common.{ℕ, ◌≡◌, ◌<◌, ◌+◌, ◌-◌, ◌^◌, ◌≤◌, suc, ◌↔◌, IsNone, inl, inr, List, [], ◌∷◌, ◌++◌, Some, None, refl, ap, sym, ◌∙◌, subst, arith, bit_and, All, AllPairs, slice_get}
 use Rattle.std.specs.Int.{bit_at}
 use Rattle.std.specs.Int.RustNames.{bit_xor}
 use Rattle.std.specs.Int.Count.{count_leading_zeros}
@@ -13,9 +13,9 @@ use Rattle.hdr_bits.specs.declared.cube.Cube.{Cube}
 use Rattle.hdr_bits.specs.Bits.{bit_of}
 use Rattle.hdr_bits.specs.CubeBits.{IsIn, IsStar}
 use Rattle.cube_alg.specs.declared.cut.Piece.{Piece}
-use Rattle.cube_alg.specs.Pieces.{value_of, AreApartPieces, IsCut, AddsCut}
+use Rattle.cube_alg.specs.Pieces.{value_of, AreApartPieces, AreStarsAt, IsCut, AddsCut}
 use Rattle.std.specs.Option.{option_or}
-use Rattle.cube_alg.specs.Pairs.{Meets}
+use Rattle.cube_alg.specs.Pairs.{Meets, HasDigit}
 use Rattle.cube_alg.specs.Rest.{Narrows}
 use Rattle.cube_alg.proofs.SplitLemmas.{star_free, free_star}
 use Rattle.hdr_bits.proofs.Masks.{agrees_from_fixed}
@@ -96,8 +96,37 @@ pairs_append [] ys a b c = b
 pairs_append (x ∷ xs) ys a b c =
     AllPairs-cons AreApartPieces x (xs ++ ys) (All-append (AreApartPieces x) xs ys (pairs_head x xs a) (All-head (λ q. All (AreApartPieces q) ys) x xs c)) (pairs_append xs ys (pairs_tail x xs a) b (All-tail (λ q. All (AreApartPieces q) ys) x xs c))
 
-pub cut_join : (k : ℕ) (node low high : Cube) (pieces zeros ones first second : List Piece) → Halves k node low high → ((h : ℕ) → IsIn low h → value_of zeros h ≡ value_of pieces h) → ((h : ℕ) → IsIn high h → value_of ones h ≡ value_of pieces h) → IsCut low zeros first → IsCut high ones second → IsCut node pieces (first ++ second)
-cut_join k node low high pieces zeros ones first second s p q a b =
+-- a piece fixes the bit at which the region is split, and each half fixes what the region fixes, and that bit
+pub record Splits (k : ℕ) (node low high : Cube) (pieces zeros ones : List Piece) : Type 0 where
+  pub low_digit : HasDigit k 0 node low
+  pub high_digit : HasDigit k 1 node high
+  pub fixed : AreStarsAt pieces k → ⊥
+  pub zero_stars : (i : ℕ) → AreStarsAt pieces i → AreStarsAt zeros i
+  pub one_stars : (i : ℕ) → AreStarsAt pieces i → AreStarsAt ones i
+
+star_of : (k digit i : ℕ) (node half : Cube) → HasDigit k digit node half → i < 112 → (i ≡ k → ⊥) → IsStar node i → IsStar half i
+star_of k digit i node half d l n s = subst (λ x. IsNone x) (sym (d.others i l n)) s
+
+stars_join : (k : ℕ) (node low high : Cube) (pieces zeros ones first second : List Piece) → Splits k node low high pieces zeros ones → IsCut low zeros first → IsCut high ones second → (i : ℕ) → i < 112 → IsStar node i → AreStarsAt pieces i → AreStarsAt (first ++ second) i
+stars_join k node low high pieces zeros ones first second d a b i l s x =
+    elim (cases_eq i k) [
+      | inl e ↦ absurd (d.fixed (subst (AreStarsAt pieces) e x))
+      | inr n ↦ All-append (λ p. IsStar p.cube i) first second (a.stars i l (star_of k 0 i node low d.low_digit l n s) (d.zero_stars i x)) (b.stars i l (star_of k 1 i node high d.high_digit l n s) (d.one_stars i x))
+    ]
+
+pub splits : (k : ℕ) (node low high : Cube) (pieces zeros ones : List Piece) (first : Piece) → Some first ≡ slice_get pieces 0 → Narrows first.cube node k → HasDigit k 0 node low → HasDigit k 1 node high → ((i : ℕ) → AreStarsAt pieces i → AreStarsAt zeros i) → ((i : ℕ) → AreStarsAt pieces i → AreStarsAt ones i) → Splits k node low high pieces zeros ones
+splits k node low high [] zeros ones first e n a b p q = absurd cc
+splits k node low high (x ∷ xs) zeros ones first e n a b p q =
+    record {
+      low_digit = a;
+      high_digit = b;
+      fixed = λ s. let t : x ≡ first = cc in let z = star_free first.cube k (subst (λ y. IsStar y.cube k) t (All-head (λ y. IsStar y.cube k) x xs s)) in let d = n.digit in absurd (omega (arith, z, d));
+      zero_stars = p;
+      one_stars = q;
+    }
+
+pub cut_join : (k : ℕ) (node low high : Cube) (pieces zeros ones first second : List Piece) → Halves k node low high → ((h : ℕ) → IsIn low h → value_of zeros h ≡ value_of pieces h) → ((h : ℕ) → IsIn high h → value_of ones h ≡ value_of pieces h) → Splits k node low high pieces zeros ones → IsCut low zeros first → IsCut high ones second → IsCut node pieces (first ++ second)
+cut_join k node low high pieces zeros ones first second s p q d a b =
     let P : Piece → Type 0 = λ x. (h : ℕ) → IsIn x.cube h → IsIn node h in
     let low_not : (h : ℕ) → IsIn low h → IsIn high h → ⊥ = λ h x y. let u = (s.zero_side h).0 x in let v = (s.one_side h).0 y in absurd (omega (arith, u.1, v.1)) in
     record {
@@ -111,14 +140,15 @@ cut_join k node low high pieces zeros ones first second s p q a b =
             let n : value_of first h ≡ None = value_none first h (All-weaker (λ y. (g : ℕ) → IsIn y.cube g → IsIn low g) (λ y. IsIn y.cube h → ⊥) (λ y f j. low_not h (f h j) i) first a.inside) in
             ap (λ z. option_or z (value_of second h)) n ∙ (b.exact h i ∙ q h i)
       ];
+      stars = stars_join k node low high pieces zeros ones first second d a b;
     }
 
-pub adds_join : (k : ℕ) (node low high : Cube) (pieces zeros ones old middle new : List Piece) → Halves k node low high → ((h : ℕ) → IsIn low h → value_of zeros h ≡ value_of pieces h) → ((h : ℕ) → IsIn high h → value_of ones h ≡ value_of pieces h) → AddsCut low zeros old middle → AddsCut high ones middle new → AddsCut node pieces old new
-adds_join k node low high pieces zeros ones old middle new s p q a b =
+pub adds_join : (k : ℕ) (node low high : Cube) (pieces zeros ones old middle new : List Piece) → Halves k node low high → ((h : ℕ) → IsIn low h → value_of zeros h ≡ value_of pieces h) → ((h : ℕ) → IsIn high h → value_of ones h ≡ value_of pieces h) → Splits k node low high pieces zeros ones → AddsCut low zeros old middle → AddsCut high ones middle new → AddsCut node pieces old new
+adds_join k node low high pieces zeros ones old middle new s p q d a b =
     record {
       parts = a.parts ++ b.parts;
       added = b.added ∙ (ap (λ x. x ++ b.parts) a.added ∙ append_assoc old a.parts b.parts);
-      cut = cut_join k node low high pieces zeros ones a.parts b.parts s p q a.cut b.cut;
+      cut = cut_join k node low high pieces zeros ones a.parts b.parts s p q d a.cut b.cut;
     }
 
 -- ---- one part
@@ -131,6 +161,7 @@ adds_one node pieces old piece e v =
         inside = All-cons (λ x. (h : ℕ) → IsIn x.cube h → IsIn node h) piece [] (λ h i. subst (λ c. IsIn c h) e i) (All-nil _);
         apart = AllPairs-cons AreApartPieces piece [] (All-nil _) pairs_nil;
         exact = λ h m. value_one piece h (subst (λ c. IsIn c h) (sym e) m) ∙ sym (v h m);
+        stars = λ k l s a. All-cons (λ x. IsStar x.cube k) piece [] (subst (λ c. IsStar c k) (sym e) s) (All-nil _);
       };
     }
 
@@ -143,6 +174,7 @@ adds_none node pieces old e =
         inside = All-nil _;
         apart = pairs_nil;
         exact = λ h m. ap (λ x. value_of x h) (sym e);
+        stars = λ k l s a. All-nil _;
       };
     }
 

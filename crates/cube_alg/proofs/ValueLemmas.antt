@@ -1,14 +1,14 @@
 use Rattle.std.proofs.Common.{ℕ, zero, suc, ◌≡◌, ◌<◌, ◌+◌, inl, inr, Bool, true, false, cond, List, [], ◌∷◌, ◌++◌, take, length, get_or, Option, Some, None, refl, ap, sym, ◌∙◌, subst, arith, bit_and, All, Any}
 use Rattle.std.proofs.lemmas.Bool.Decides.{nat_tests, eqb_tells}
 use Rattle.std.proofs.lemmas.List.{take_more}
-use Rattle.std.proofs.lemmas.List.Elements.{All-head, All-tail, All-push}
+use Rattle.std.proofs.lemmas.List.Elements.{All-head, All-tail, All-push, All-nil}
 use Rattle.hdr_bits.specs.declared.cube.Cube.{Cube}
-use Rattle.hdr_bits.specs.CubeBits.{IsIn, is_in}
+use Rattle.hdr_bits.specs.CubeBits.{IsIn, IsStar, is_in}
 use Rattle.hdr_bits.proofs.Masks.{in_from_mask, mask_from_in}
 use Rattle.cube_alg.specs.declared.cut.Piece.{Piece}
 use Rattle.std.specs.Option.{option_or}
 use Rattle.cube_alg.specs.Pairs.{Meets}
-use Rattle.cube_alg.specs.Pieces.{value_of}
+use Rattle.cube_alg.specs.Pieces.{value_of, AreStarsAt}
 use Rattle.cube_alg.proofs.MaskLemmas.{meets_of_both, inside_of_wider}
 
 pub option_or-none : (x : Option ℕ) → option_or x None ≡ x
@@ -95,6 +95,17 @@ part_stop node ps kept i p l e n w a =
       value = λ h m. let q = in_wider p node h n w m in
           value_of-append kept (p ∷ []) h ∙ (ap (λ z. option_or z (value_of (p ∷ []) h)) (a.value h m) ∙ (ap (λ z. option_or (value_of (take i ps) h) z) (value_one p h q) ∙ sym (value_stop ps i p h l e q)));
     }
+
+-- ---- bits that no piece fixes
+pub record KeepsStars (pieces kept : List Piece) : Type 0 where
+  pub stars : (k : ℕ) → AreStarsAt pieces k → AreStarsAt kept k
+
+pub stars_none : (pieces : List Piece) → KeepsStars pieces []
+stars_none pieces = record { stars = λ k a. All-nil _ }
+
+pub stars_take : (ps kept : List Piece) (i : ℕ) (p : Piece) → i < length ps → p ≡ get_or ps i p → KeepsStars ps kept → KeepsStars ps (kept ++ p ∷ [])
+stars_take ps kept i p l e s =
+    record { stars = λ k a. All-push (λ q. IsStar q.cube k) kept p (s.stars k a) (subst (λ q. IsStar q.cube k) (sym e) (a i p l)) }
 
 -- ---- pieces with one value
 pub record HasOnly (v : ℕ) (pieces : List Piece) : Type 0 where

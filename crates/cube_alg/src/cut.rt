@@ -18,10 +18,10 @@ pub struct Piece {
     pub value: u32,
 }
 
-ghost use Rattle.cube_alg.specs.Pieces.{value_of, AreApartPieces, AddsCut};
+ghost use Rattle.cube_alg.specs.Pieces.{value_of, AreApartPieces, AreStarsAt, AddsCut};
 
 /// Disjoint pieces that give each header what the first of these pieces that holds it gives, in an order of
-/// their own. Where the last of the pieces is the cube of all headers they cover all headers.
+/// their own. Where the last of the pieces is the cube of all headers they cover all headers. They fix no bit that no piece fixes.
 pub fn first_cut(alloc: Global, pieces: &[Piece]) -> Result<Vec<Piece>, NoMemory>
     ensures apart { IfOk result (λ r. AllPairs AreApartPieces r.items) }
     ensures exact { IfOk result (λ r. (h : ℕ) → value_of r.items h ≡ value_of pieces.now h) }
@@ -29,13 +29,15 @@ pub fn first_cut(alloc: Global, pieces: &[Piece]) -> Result<Vec<Piece>, NoMemory
         (λ r. All (λ p. (h : ℕ) → IsIn p.cube h → value_of pieces.now h ≡ Some p.value) r.items) }
     ensures holder { IfOk result
         (λ r. (h v : ℕ) → value_of pieces.now h ≡ Some v → Any (λ p. IsIn p.cube h) r.items) }
+    ensures stars { IfOk result (λ r. (k : ℕ) → k < 112 → AreStarsAt pieces.now k → AreStarsAt r.items k) }
 {
     let parts = cut_within(alloc, pieces, &Cube::all())?;
     Ok(parts)
 }
 
 /// Disjoint parts of the region that give each of its headers what the first of these pieces that holds it
-/// gives. No piece that has no header of the region costs more than one test.
+/// gives. They fix no bit that neither the region nor a piece fixes. No piece that has no header of the region costs more
+/// than one test.
 pub fn cut_within(alloc: Global, pieces: &[Piece], region: &Cube) -> Result<Vec<Piece>, NoMemory>
     ensures inside { IfOk result (λ r. All (λ p. IsInside p.cube region.now) r.items) }
     ensures apart { IfOk result (λ r. AllPairs AreApartPieces r.items) }
@@ -44,6 +46,7 @@ pub fn cut_within(alloc: Global, pieces: &[Piece], region: &Cube) -> Result<Vec<
         (λ r. All (λ p. (h : ℕ) → IsIn p.cube h → value_of pieces.now h ≡ Some p.value) r.items) }
     ensures holder { IfOk result
         (λ r. (h v : ℕ) → IsIn region.now h → value_of pieces.now h ≡ Some v → Any (λ p. IsIn p.cube h) r.items) }
+    ensures stars { IfOk result (λ r. (k : ℕ) → k < 112 → IsStar region.now k → AreStarsAt pieces.now k → AreStarsAt r.items k) }
 {
     let there = meeting(alloc, pieces, region)?;
     let mut parts = Vec::new(alloc);
@@ -118,6 +121,7 @@ pub(crate) fn free_bit(cube: &Cube, node: &Cube) -> Option<u32>
 fn meeting(alloc: Global, pieces: &[Piece], node: &Cube) -> Result<Vec<Piece>, NoMemory>
     ensures meets { IfOk result (λ r. All (λ p. Meets p.cube node.now) r.items) }
     ensures value { IfOk result (λ r. (h : ℕ) → IsIn node.now h → value_of r.items h ≡ value_of pieces.now h) }
+    ensures stars { IfOk result (λ r. (k : ℕ) → AreStarsAt pieces.now k → AreStarsAt r.items k) }
 {
     let mut kept = Vec::new(alloc);
     for p in pieces {

@@ -1,5 +1,5 @@
 -- The parts of the cut with the choices of their groups.
-use Rattle.std.proofs.Common.{◌≡◌, ℕ, zero, suc, ◌<◌, ◌^◌, ◌/◌, Bool, false, cond, List, [], ◌∷◌, ◌++◌, length, get_or, map, Option, Some, None, refl, sym, ap, subst, ◌∙◌, arith}
+use Rattle.std.proofs.Common.{◌≡◌, ℕ, zero, suc, ◌<◌, ◌≤◌, ◌^◌, ◌/◌, Bool, false, cond, List, [], ◌∷◌, ◌++◌, length, get_or, map, Option, Some, None, refl, sym, ap, subst, ◌∙◌, arith}
 use Rattle.std.specs.Prelude.{All, AllPairs, Any}
 use Rattle.std.specs.Option.{option_or, unwrap_or}
 use Rattle.std.specs.List.Sorted.{IsStrictlySortedBy}
@@ -11,7 +11,7 @@ use Rattle.hdr_bits.specs.Bits.{bit_of}
 use Rattle.hdr_bits.specs.CubeBits.{IsIn, IsStar, is_in, digit_at}
 use Rattle.cube_alg.proofs.ValueLemmas.{test_in}
 use Rattle.cube_alg.specs.declared.cut.Piece.{Piece}
-use Rattle.cube_alg.specs.Pieces.{value_of, AreApartPieces}
+use Rattle.cube_alg.specs.Pieces.{value_of, AreApartPieces, AreStarsAt}
 use Rattle.hdr_bits.specs.declared.cube.Cube.{Cube}
 use Rattle.net_types.specs.declared.network.Rib.{Rib}
 use Rattle.net_types.specs.Order.{hop_cmp, in_order}
@@ -21,7 +21,7 @@ use Rattle.fib_lookup.specs.declared.form.HopForm.{HopForm}
 use Rattle.fib_lookup.specs.declared.form.HopForm.TheVariants.{Discard}
 use Rattle.fib_lookup.specs.declared.group.Group.{Group}
 use Rattle.fib_lookup.specs.Forms.{form_cmp, hop_of}
-use Rattle.fib_lookup.specs.Choices.{choices_in, AreChoicesFor}
+use Rattle.fib_lookup.specs.Choices.{choices_in, AreChoicesFor, IsOfDestinations}
 use Rattle.fib_lookup.specs.Groups.{number_of, forms_at, first_forms, row, AreChoices}
 use Rattle.fib_lookup.proofs.Numbers.{forms_first}
 
@@ -100,16 +100,18 @@ choices_push (q ∷ rows) c forms h = ap (cond (is_in q.0 h) (Some q.1)) (choice
 pub record AreRows (groups : List Group) (rows : List (Cube × List HopForm)) : Type 0 where
   pub choices : (h : ℕ) → h < 2 ^ 112 → choices_in rows h ≡ found_forms groups (h / 2 ^ 80)
   pub sorted : All (λ p. IsStrictlySortedBy form_cmp p.1) rows
+  pub destinations : All (λ p. IsOfDestinations p.0) rows
 
 pub rows_none : AreRows [] []
-rows_none = record { choices = λ h b. refl; sorted = All-nil (λ p. IsStrictlySortedBy form_cmp p.1) }
+rows_none = record { choices = λ h b. refl; sorted = All-nil (λ p. IsStrictlySortedBy form_cmp p.1); destinations = All-nil (λ p. IsOfDestinations p.0) }
 
-pub rows_more : (gs : List Group) (rows : List (Cube × List HopForm)) (g : Group) (c : Cube) → ((h : ℕ) → h < 2 ^ 112 → is_in c h ≡ holds g.prefix (h / 2 ^ 80)) → IsStrictlySortedBy form_cmp g.forms.items → AreRows gs rows → AreRows (gs ++ g ∷ []) (rows ++ (c, g.forms.items) ∷ [])
-rows_more gs rows g c f s r =
+pub rows_more : (gs : List Group) (rows : List (Cube × List HopForm)) (g : Group) (c : Cube) → ((h : ℕ) → h < 2 ^ 112 → is_in c h ≡ holds g.prefix (h / 2 ^ 80)) → IsOfDestinations c → IsStrictlySortedBy form_cmp g.forms.items → AreRows gs rows → AreRows (gs ++ g ∷ []) (rows ++ (c, g.forms.items) ∷ [])
+rows_more gs rows g c f d s r =
     record {
       choices = λ h b. choices_push rows c g.forms.items h
           ∙ ((λ i. option_or (r.choices h b i) (cond (f h b i) (Some g.forms.items) None)) ∙ sym (found_push gs g (h / 2 ^ 80)));
       sorted = All-push (λ p. IsStrictlySortedBy form_cmp p.1) rows (c, g.forms.items) r.sorted s;
+      destinations = All-push (λ p. IsOfDestinations p.0) rows (c, g.forms.items) r.destinations d;
     }
 
 or_drop_first : (gs : List Group) (a : ℕ) → option_or (found_forms gs a) (Some (Discard ∷ [])) ≡ Some (first_forms gs a)
@@ -128,6 +130,13 @@ rows_whole gs rows c forms all e r h b =
 pub rows_whole_sorted : (gs : List Group) (rows : List (Cube × List HopForm)) (c : Cube) (forms : List HopForm) → forms ≡ Discard ∷ [] → AreRows gs rows → All (λ p. IsStrictlySortedBy form_cmp p.1) (rows ++ (c, forms) ∷ [])
 rows_whole_sorted gs rows c forms e r =
     All-push (λ p. IsStrictlySortedBy form_cmp p.1) rows (c, forms) r.sorted (subst (λ fs. IsStrictlySortedBy form_cmp fs) (sym e) one_sorted)
+
+pub rows_whole_destinations : (gs : List Group) (rows : List (Cube × List HopForm)) (c : Cube) (forms : List HopForm) → IsOfDestinations c → AreRows gs rows → All (λ p. IsOfDestinations p.0) (rows ++ (c, forms) ∷ [])
+rows_whole_destinations gs rows c forms d r = All-push (λ p. IsOfDestinations p.0) rows (c, forms) r.destinations d
+
+pub rows_destinations : (gs : List Group) (parts : List Piece) (rows : List (Cube × List HopForm)) → rows ≡ map (row gs) parts → ((k : ℕ) → 32 ≤ k → k < 112 → AreStarsAt parts k) → All (λ p. IsOfDestinations p.0) rows
+rows_destinations gs parts rows q s =
+    subst (All (λ p. IsOfDestinations p.0)) (sym q) (All-map (λ p. IsOfDestinations p.0) (row gs) parts (λ i d l k a b. s k a b i d l))
 
 pub rows_choices : (rib : Rib) (gs : List Group) (rows : List (Cube × List HopForm)) → AreChoices rib gs → ((h : ℕ) → h < 2 ^ 112 → choices_in rows h ≡ Some (first_forms gs (h / 2 ^ 80))) → (h : ℕ) → h < 2 ^ 112 → AreChoicesFor rib (h / 2 ^ 80) (choices_in rows h)
 rows_choices rib gs rows c n h b =

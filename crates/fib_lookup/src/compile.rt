@@ -1,11 +1,11 @@
-ghost use Rattle.std.specs.Prelude.{◌≡◌, ◌<◌, ◌^◌, ◌/◌, ◌∷◌, [], ℕ, Some, IfOk, All, AllPairs, Any, map, length};
+ghost use Rattle.std.specs.Prelude.{◌≡◌, ◌<◌, ◌≤◌, ◌^◌, ◌/◌, ◌∷◌, [], ℕ, Some, IfOk, All, AllPairs, Any, map, length};
 ghost use Rattle.std.specs.Option.{unwrap_or};
 ghost use Rattle.std.specs.List.Sorted.{IsStrictlySortedBy};
 ghost use Rattle.hdr_bits.specs.CubeBits.{IsIn};
 ghost use Rattle.net_types.specs.Order.{hop_cmp, in_order};
 ghost use Rattle.net_types.specs.Routes.{hops};
-ghost use Rattle.cube_alg.specs.Pieces.{value_of};
-ghost use Rattle.fib_lookup.specs.Choices.{choices_in, AreChoicesFor};
+ghost use Rattle.cube_alg.specs.Pieces.{value_of, AreStarsAt};
+ghost use Rattle.fib_lookup.specs.Choices.{choices_in, AreChoicesFor, IsOfDestinations};
 ghost use Rattle.fib_lookup.specs.declared.form.HopForm.TheVariants.{Discard};
 ghost use Rattle.fib_lookup.specs.Forms.{form_cmp, hop_of};
 ghost use Rattle.fib_lookup.specs.Groups.{number_of, forms_at, first_forms, row, AreChoices};
@@ -20,8 +20,8 @@ use hdr_bits::Cube;
 use net_types::{Duplicate, List, NoMemory, Rib};
 use std::alloc::Global;
 
-/// The choices of every destination: disjoint cubes that hold all headers, each with the choices of its headers,
-/// in order and each once.
+/// The choices of every destination: disjoint cubes that hold all headers and fix nothing but destinations, each with the
+/// choices of its headers, in order and each once.
 ///
 /// # Errors
 ///
@@ -33,6 +33,7 @@ pub fn compile_rib(alloc: Global, rib: &Rib) -> Result<Vec<(Cube, List<HopForm>)
     // A direct choice has the header's own destination as its next address.
     ensures exact { IfOk result (λ r. All (λ p. (h : ℕ) → h < 2 ^ 112 → IsIn p.0 h → in_order hop_cmp (map (hop_of (h / 2 ^ 80)) p.1) ≡ in_order hop_cmp (hops rib.now (h / 2 ^ 80))) r.items) }
     ensures sorted { IfOk result (λ r. All (λ p. IsStrictlySortedBy form_cmp p.1) r.items) }
+    ensures destinations { IfOk result (λ r. All (λ p. IsOfDestinations p.0) r.items) }
 {
     let groups = all_groups(alloc, rib)?;
     let pieces = pieces_of(alloc, groups.as_slice())?;
@@ -42,7 +43,8 @@ pub fn compile_rib(alloc: Global, rib: &Rib) -> Result<Vec<(Cube, List<HopForm>)
 }
 
 /// The choices of every destination by its prefixes, in the order in which these are tried: a header has the choices of
-/// the first cube that holds it, and there is one. There are as many cubes as prefixes, and one more, of all headers.
+/// the first cube that holds it, and there is one. The cubes fix nothing but destinations; there are as many as prefixes, and
+/// one more, of all headers.
 ///
 /// # Errors
 ///
@@ -50,6 +52,7 @@ pub fn compile_rib(alloc: Global, rib: &Rib) -> Result<Vec<(Cube, List<HopForm>)
 pub fn prefix_choices(alloc: Global, rib: &Rib) -> Result<Vec<(Cube, List<HopForm>)>, NoMemory>
     ensures exact { IfOk result (λ r. (h : ℕ) → h < 2 ^ 112 → AreChoicesFor rib.now (h / 2 ^ 80) (choices_in r.items h)) }
     ensures sorted { IfOk result (λ r. All (λ p. IsStrictlySortedBy form_cmp p.1) r.items) }
+    ensures destinations { IfOk result (λ r. All (λ p. IsOfDestinations p.0) r.items) }
 {
     let groups = all_groups(alloc, rib)?;
     let rows = rows_by_prefix(alloc, groups)?;
@@ -61,6 +64,7 @@ fn rows_by_prefix(alloc: Global, groups: Vec<Group>) -> Result<Vec<(Cube, List<H
     requires { All (λ g. IsStrictlySortedBy form_cmp g.forms.items) groups.items }
     ensures choices { IfOk result (λ rows. (h : ℕ) → h < 2 ^ 112 → choices_in rows.items h ≡ Some (first_forms groups.items (h / 2 ^ 80))) }
     ensures sorted { IfOk result (λ rows. All (λ p. IsStrictlySortedBy form_cmp p.1) rows.items) }
+    ensures destinations { IfOk result (λ rows. All (λ p. IsOfDestinations p.0) rows.items) }
 {
     let mut rows = Vec::with_capacity(alloc, groups.len())?;
     for group in groups {
@@ -114,7 +118,8 @@ fn all_groups(alloc: Global, rib: &Rib) -> Result<Vec<Group>, NoMemory>
 
 /// A piece for each group, in order, with the group's position as its value, and one for all other headers.
 fn pieces_of(alloc: Global, groups: &[Group]) -> Result<Vec<Piece>, NoMemory>
-    ensures { IfOk result (λ r. (h : ℕ) → h < 2 ^ 112 → value_of r.items h ≡ Some (unwrap_or (number_of groups.now (h / 2 ^ 80)) (length groups.now))) }
+    ensures value { IfOk result (λ r. (h : ℕ) → h < 2 ^ 112 → value_of r.items h ≡ Some (unwrap_or (number_of groups.now (h / 2 ^ 80)) (length groups.now))) }
+    ensures stars { IfOk result (λ r. (k : ℕ) → 32 ≤ k → k < 112 → AreStarsAt r.items k) }
 {
     let mut pieces = Vec::new(alloc);
     for (i, group) in groups.iter().enumerate() {

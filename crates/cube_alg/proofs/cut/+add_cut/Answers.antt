@@ -1,5 +1,5 @@
 use Rattle.std.proofs.Common.{refl}
-use Rattle.cube_alg.proofs.CutLemmas.{adds_empty, adds_one, adds_join, first_value, split_halves}
+use Rattle.cube_alg.proofs.CutLemmas.{adds_empty, adds_one, adds_join, first_value, split_halves, splits}
 use Rattle.cube_alg.proofs.cut.+add_cut.Goals as goal
 
 pub returns-in_default : goal.returns-in_default
@@ -17,4 +17,6 @@ returns-in_default-free_bit t c =
 pub returns : goal.returns
 returns t c =
     let s = split_halves c.in-Some-free_bit.bit c.args.node c.split.result c.split.ensures.low c.split.ensures.high in
-    adds_join c.in-Some-free_bit.bit c.args.node c.split.result.0 c.split.result.1 c.args.pieces.now c.deref.result.now c.deref-2.result.now c.args.parts.now.items c.add_cut.new.parts.items c.add_cut-2.new.parts.items s (rw c.deref.ensures.value c.in_ok-zeros.ensures.value) (rw c.deref-2.ensures.value c.in_ok-ones.ensures.value) c.in_ok-add_cut.ensures c.in_ok-add_cut-2.ensures
+    let f = c.in-Some.first.now in
+    let d = splits c.in-Some-free_bit.bit c.args.node c.split.result.0 c.split.result.1 c.args.pieces.now c.deref.result.now c.deref-2.result.now f c.in-Some.ensures.value c.in-Some-free_bit.ensures.bit c.split.ensures.low_bits c.split.ensures.high_bits (rw c.deref.ensures.value c.in_ok-zeros.ensures.stars) (rw c.deref-2.ensures.value c.in_ok-ones.ensures.stars) in
+    adds_join c.in-Some-free_bit.bit c.args.node c.split.result.0 c.split.result.1 c.args.pieces.now c.deref.result.now c.deref-2.result.now c.args.parts.now.items c.add_cut.new.parts.items c.add_cut-2.new.parts.items s (rw c.deref.ensures.value c.in_ok-zeros.ensures.value) (rw c.deref-2.ensures.value c.in_ok-ones.ensures.value) d c.in_ok-add_cut.ensures c.in_ok-add_cut-2.ensures
