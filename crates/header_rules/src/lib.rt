@@ -9,4 +9,4 @@ mod access_lists;
 mod translation;
 
 pub use access_lists::{first_match, matches, passes};
-pub use translation::{from_inside, from_outside, is_plain};
+pub use translation::{from_inside, from_outside, is_outer};

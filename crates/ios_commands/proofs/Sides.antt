@@ -17,12 +17,19 @@ pub same_side_is : (s t : NatSide) → same_side s t ≡ true → s ≡ t
 same_side_is (side.Plain a) (side.Plain b) h = ap side.Plain (eqb-true a b h)
 same_side_is (side.Tcp a m) (side.Tcp b n) h = let p = both (a == b) (m == n) h in let x = eqb-true a b p.0 in let y = eqb-true m n p.1 in cc
 same_side_is (side.Udp a m) (side.Udp b n) h = let p = both (a == b) (m == n) h in let x = eqb-true a b p.0 in let y = eqb-true m n p.1 in cc
+same_side_is (side.Outer a) (side.Outer b) h = ap side.Outer (eqb-true a b h)
 same_side_is (side.Plain a) (side.Tcp b n) h = absurd (cc)
 same_side_is (side.Plain a) (side.Udp b n) h = absurd (cc)
 same_side_is (side.Tcp a m) (side.Plain b) h = absurd (cc)
 same_side_is (side.Tcp a m) (side.Udp b n) h = absurd (cc)
 same_side_is (side.Udp a m) (side.Plain b) h = absurd (cc)
 same_side_is (side.Udp a m) (side.Tcp b n) h = absurd (cc)
+same_side_is (side.Plain a) (side.Outer b) h = absurd (cc)
+same_side_is (side.Tcp a m) (side.Outer b) h = absurd (cc)
+same_side_is (side.Udp a m) (side.Outer b) h = absurd (cc)
+same_side_is (side.Outer a) (side.Plain b) h = absurd (cc)
+same_side_is (side.Outer a) (side.Tcp b n) h = absurd (cc)
+same_side_is (side.Outer a) (side.Udp b n) h = absurd (cc)
 
 no_more : (b : Bool) → b ≡ (b || false)
 no_more true = refl

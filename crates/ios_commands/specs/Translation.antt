@@ -1,4 +1,4 @@
--- The command of static address translation: ip nat inside source static.
+-- The commands of static address translation: ip nat inside source static and ip nat outside source static.
 use Rattle.std.specs.Prelude.{ℕ, Bool, false, ◌&&◌, List, [], ◌∷◌, Result, Ok, Err, ◌==◌, if◌then◌else◌, codes}
 use Rattle.std.specs.List.{list_any}
 use Rattle.std.specs.Str.{bytes_eq}
@@ -20,6 +20,7 @@ abbrev pub side_by : NatKind → ℕ → ℕ → NatSide
 side_by nat.Plain address port = side.Plain address
 side_by nat.Tcp address port = side.Tcp address port
 side_by nat.Udp address port = side.Udp address port
+side_by nat.Outer address port = side.Outer address
 
 -- L, or L LP
 abbrev pub local_side : NatRule → NatSide
@@ -34,6 +35,7 @@ abbrev pub same_side : NatSide → NatSide → Bool
 same_side (side.Plain a) (side.Plain b) = a == b
 same_side (side.Tcp a m) (side.Tcp b n) = a == b && m == n
 same_side (side.Udp a m) (side.Udp b n) = a == b && m == n
+same_side (side.Outer a) (side.Outer b) = a == b
 same_side _ _ = false
 
 -- a rule of the same kind has this side
@@ -85,3 +87,10 @@ static_action rules words = do
   if bytes_eq w.0 (codes "tcp") then port_rule rules nat.Tcp w.1
       else (if bytes_eq w.0 (codes "udp") then port_rule rules nat.Udp w.1
       else address_rule rules words)
+
+-- static G L of the outer side
+unfoldable pub outer_action : List NatRule → Words → Result Action Fault
+outer_action rules words = do
+  g ← address_at (command_refuses command_part.OuterGlobal) words
+  l ← address_at none_refused g.1
+  rule_action rules (record { kind = nat.Outer; local = l.0; local_port = 0; global = g.0; global_port = 0 }) (head_word g.1) (head_word words) l.1

@@ -13,4 +13,4 @@ pub use banners::{banner, is_banner};
 pub use interfaces::{access_group, interface, interface_address, plain};
 pub use routes::static_route;
 pub use tables::{global_row, interface_row, uncovered};
-pub use translation::{NatBook, static_rule};
+pub use translation::{NatBook, outer_rule, static_rule};

@@ -18,7 +18,9 @@ pub enum CommandPart {
     NatLocal,
     /// `ip nat inside source static`, the global address
     NatGlobal,
-    /// `ip nat inside source static`, what stands after the complete rule
+    /// `ip nat outside source static`, the global address
+    OuterGlobal,
+    /// `ip nat inside source static` and `ip nat outside source static`, what stands after the complete rule
     NatEnd,
 }
 
@@ -32,9 +34,17 @@ impl Refuses for CommandPart {
             CommandPart::RouteTail => is_tail_refused(word),
             CommandPart::NatLocal => is(word, b"network") || is(word, b"esp"),
             CommandPart::NatGlobal => is(word, b"interface"),
+            CommandPart::OuterGlobal => is_outer_refused(word),
             CommandPart::NatEnd => !is(word, b"extendable"),
         }
     }
+}
+
+/// Whether a rule of the outer side doesn't cover this word as its global address.
+fn is_outer_refused(word: &Text) -> bool
+    ensures { result ≡ command_refuses CommandPart.OuterGlobal word.now }
+{
+    is(word, b"network") || is(word, b"tcp") || is(word, b"udp") || is(word, b"esp")
 }
 
 /// Whether a route doesn't cover this word after its mask.

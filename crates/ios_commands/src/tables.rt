@@ -12,7 +12,7 @@ use std::alloc::Global;
 pub fn global_row(words: &[Text]) -> Option<usize>
     ensures { result ≡ option_map length (find (fits_row words.now) global_rows) }
 {
-    let rows: [&[&[u8]]; 22] = [
+    let rows: [&[&[u8]]; 23] = [
         &[b"router"],
         &[b"ip", b"vrf"],
         &[b"vrf"],
@@ -28,7 +28,8 @@ pub fn global_row(words: &[Text]) -> Option<usize>
         &[b"ip", b"nat", b"inside", b"destination"],
         &[b"ip", b"nat", b"inside", b"source", b"list"],
         &[b"ip", b"nat", b"inside", b"source", b"route-map"],
-        &[b"ip", b"nat", b"outside", b"source"],
+        &[b"ip", b"nat", b"outside", b"source", b"list"],
+        &[b"ip", b"nat", b"outside", b"source", b"route-map"],
         &[b"no", b"access-list"],
         &[b"no", b"ip", b"access-list"],
         &[b"no", b"ip", b"route"],

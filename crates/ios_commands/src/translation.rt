@@ -1,4 +1,4 @@
-//! The command of static address translation: `ip nat inside source static`.
+//! The commands of static address translation: `ip nat inside source static` and `ip nat outside source static`.
 ghost use Rattle.std.specs.Prelude.{◌≡◌, IfOk, ◌++◌, ◌∷◌, []};
 ghost use Rattle.ios_lines.specs.Words.{Gives};
 ghost use Rattle.ios_commands.specs.Translation.{
@@ -13,6 +13,7 @@ ghost use Rattle.ios_commands.specs.Translation.{
   address_rule,
   port_rule,
   static_action,
+  outer_action,
 };
 
 use crate::refused::CommandPart;
@@ -30,6 +31,7 @@ pub enum NatSide {
     Plain { address: u32 },
     Tcp { address: u32, port: u16 },
     Udp { address: u32, port: u16 },
+    Outer { address: u32 },
 }
 
 /// Rules in the order of their lines, with their sides at hand.
@@ -121,6 +123,7 @@ fn side_by(kind: NatKind, address: u32, port: u16) -> NatSide
         NatKind::Plain => NatSide::Plain { address },
         NatKind::Tcp => NatSide::Tcp { address, port },
         NatKind::Udp => NatSide::Udp { address, port },
+        NatKind::Outer => NatSide::Outer { address },
     }
 }
 
@@ -149,6 +152,25 @@ pub fn static_rule(alloc: Global, rules: &NatBook, words: &[Text]) -> Result<Act
         return port_rule(alloc, rules, NatKind::Udp, rest);
     }
     address_rule(alloc, rules, words)
+}
+
+/// `static G L` of the outer side
+#[tactic(auto, unfolding(crate::specs::Translation::outer_action))]
+pub fn outer_rule(alloc: Global, rules: &NatBook, words: &[Text]) -> Result<Action, ReadError>
+    ensures { Gives (λ a. a) result (outer_action rules.now words.now) }
+{
+    let (global, after_global) = read_address(alloc, CommandPart::OuterGlobal, words)?;
+    let (local, rest) = read_address(alloc, Plain, after_global)?;
+    let local_word = first(alloc, after_global)?;
+    let global_word = first(alloc, words)?;
+    let rule = NatRule {
+        kind: NatKind::Outer,
+        local,
+        local_port: 0,
+        global,
+        global_port: 0,
+    };
+    rule_action(alloc, rules, rule, &local_word, &global_word, rest)
 }
 
 /// `L G`

@@ -20,7 +20,7 @@ ghost use Rattle.ios_config.specs.Answers.{seen_in};
 use crate::draft::Draft;
 use ios_commands::{
     access_group, banner, global_row, interface, interface_address, interface_row, is_banner,
-    plain, static_route, static_rule, uncovered,
+    outer_rule, plain, static_route, static_rule, uncovered,
 };
 use ios_lines::{
     Action, Change, Effect, Fault, Plain, ReadError, Refusal, Section, after, begins, end, next,
@@ -164,6 +164,9 @@ fn global_command(
     }
     if begins(words, &[b"ip", b"nat", b"inside", b"source", b"static"]) {
         return static_rule(alloc, &draft.nat, after(words, 5));
+    }
+    if begins(words, &[b"ip", b"nat", b"outside", b"source", b"static"]) {
+        return outer_rule(alloc, &draft.nat, after(words, 5));
     }
     if begins(words, &[b"access-list"]) {
         return numbered_list(alloc, &draft.list_names, &draft.lists, after(words, 1));

@@ -23,7 +23,7 @@ use Rattle.ios_commands.specs.declared.routes.RouteOptions.{RouteOptions}
 use Rattle.ios_commands.specs.Tables.{refused_by, fits_row, uncovered}
 use Rattle.ios_commands.specs.Interfaces.{after_link_kind, interface_action, subnet_of, written_at, begins_secondary, after_secondary, address_change, address_action, plain_action, direction_at, group_action}
 use Rattle.ios_commands.specs.Routes.{is_prefix, prefix_at, port_by, after_hop, exit_by, exit_at, no_options, free_distance, distance_option, name_option, tag_option, option_by, option_at, options_at, route_at, route_action, is_name_option, is_tag_option}
-use Rattle.ios_commands.specs.Translation.{local_side, global_side, has_local, has_global, clash, extendable_at, rule_action, address_rule, port_rule, static_action}
+use Rattle.ios_commands.specs.Translation.{local_side, global_side, has_local, has_global, clash, extendable_at, rule_action, address_rule, port_rule, static_action, outer_action}
 use Rattle.ios_print.specs.Printable.{IsAddress, IsPort, IsExit, IsRoute, IsPortPair, IsRule}
 use Rattle.ios_print.proofs.Has.{Each, Has, then_has, some_has, if_has, next_has, allowed_has, address_bound, address_has, mask_has, number_has, number_bounds}
 
@@ -238,3 +238,10 @@ module _ (rules : List NatRule) where
       then_has (λ w. IsWord w.0 × (command_refuses command_part.NatLocal w.0 ≡ false) × Each w.1) (IsFineAction rules) (allowed_word (command_refuses command_part.NatLocal) ws) _ (allowed_has (command_refuses command_part.NatLocal) ws e) (λ w h.
       if_has (IsFineAction rules) (bytes_eq w.0 (codes "tcp")) (port_rule rules nat.Tcp w.1) _ (λ b. port_rule_fine nat.Tcp (λ r p. p) w.1 h.2) (λ b.
       if_has (IsFineAction rules) (bytes_eq w.0 (codes "udp")) (port_rule rules nat.Udp w.1) (address_rule rules ws) (λ c. port_rule_fine nat.Udp (λ r p. p) w.1 h.2) (λ c. address_rule_fine ws e)))
+
+  pub outer_fine : (ws : Words) → Each ws → Has (IsFineAction rules) (outer_action rules ws)
+  unfolding outer_action
+  outer_fine ws e =
+      then_has (λ a. (a.0 < 4294967296) × Each a.1) (IsFineAction rules) (address_at (command_refuses command_part.OuterGlobal) ws) _ (address_has (command_refuses command_part.OuterGlobal) ws e) (λ g h.
+      then_has (λ a. (a.0 < 4294967296) × Each a.1) (IsFineAction rules) (address_at none_refused g.1) _ (address_has none_refused g.1 h.1) (λ l k.
+      rule_fine (record { kind = nat.Outer; local = l.0; local_port = 0; global = g.0; global_port = 0 }) (head_word g.1) (head_word ws) l.1 k.0 h.0 (refl, refl)))

@@ -23,7 +23,7 @@ use Rattle.ios_lines.specs.Lists.{latest}
 use Rattle.ios_commands.specs.Tables.{global_rows, interface_rows, uncovered}
 use Rattle.ios_commands.specs.Interfaces.{interface_action, address_action, plain_action, group_action}
 use Rattle.ios_commands.specs.Routes.{route_action}
-use Rattle.ios_commands.specs.Translation.{static_action}
+use Rattle.ios_commands.specs.Translation.{static_action, outer_action}
 use Rattle.ios_commands.specs.Banners.{is_banner, banner_over, banner_at, banner_effect, lines_within}
 use Rattle.ios_lists.specs.ListCommands.{kind_by_number, list_at, book_by, section_line, unnumbered_line, kind_at, opened, section_action, numbered_action, open_action}
 use Rattle.ios_config.specs.Effects.{Seen, hostname_action, interface_command, global_command, sub_command, command_action, resolve, is_comment, words_effect, line_words, effect_of}
@@ -31,7 +31,7 @@ use Rattle.ios_config.specs.Rules.{is_opening, opened_by, opens, section_of, nat
 use Rattle.ios_config.specs.Reads.{seen_of, effects}
 use Rattle.ios_print.proofs.Has.{Each, Has, then_has, if_has, next_has}
 use Rattle.ios_print.proofs.EffectsFine.{IfAny, FineAll, all_effects, last_found}
-use Rattle.ios_print.proofs.FineCommands.{IsName, IsFineAction, after_any, each_drop, uncovered_fine, address_fine, plain_fine, group_fine, interface_fine, route_fine, static_fine}
+use Rattle.ios_print.proofs.FineCommands.{IsName, IsFineAction, after_any, each_drop, uncovered_fine, address_fine, plain_fine, group_fine, interface_fine, route_fine, static_fine, outer_fine}
 
 -- an interface's section has its name
 abbrev pub IsFineSection : Section → Type 0
@@ -81,9 +81,10 @@ global_fine seen line ws e =
     if_has (IsFineAction seen.nat) (begins (codes "interface" ∷ []) ws) (interface_action (drop 1 ws)) _ (λ b. interface_fine seen.nat (drop 1 ws) (each_drop 1 ws e)) (λ b.
     if_has (IsFineAction seen.nat) (begins (codes "ip" ∷ codes "route" ∷ []) ws) (route_action line (drop 2 ws)) _ (λ b. route_fine seen.nat line (drop 2 ws) (each_drop 2 ws e)) (λ b.
     if_has (IsFineAction seen.nat) (begins (codes "ip" ∷ codes "nat" ∷ codes "inside" ∷ codes "source" ∷ codes "static" ∷ []) ws) (static_action seen.nat (drop 5 ws)) _ (λ b. static_fine seen.nat (drop 5 ws) (each_drop 5 ws e)) (λ b.
+    if_has (IsFineAction seen.nat) (begins (codes "ip" ∷ codes "nat" ∷ codes "outside" ∷ codes "source" ∷ codes "static" ∷ []) ws) (outer_action seen.nat (drop 5 ws)) _ (λ b. outer_fine seen.nat (drop 5 ws) (each_drop 5 ws e)) (λ b.
     if_has (IsFineAction seen.nat) (begins (codes "access-list" ∷ []) ws) (numbered_action seen.list_names seen.lists (drop 1 ws)) _ (λ b. numbered_any seen.nat seen.list_names seen.lists (drop 1 ws)) (λ b.
     if_has (IsFineAction seen.nat) (begins (codes "ip" ∷ codes "access-list" ∷ []) ws) (open_action seen.list_names seen.lists (drop 2 ws)) (uncovered global_rows ws (action.Pass true)) (λ b. open_any seen.nat seen.list_names seen.lists (drop 2 ws)) (λ b.
-    uncovered_fine seen.nat global_rows ws true))))))
+    uncovered_fine seen.nat global_rows ws true)))))))
 
 sub_fine : (seen : Seen) (s : Section) (line : ℕ) (ws : Words) → IsFineSection s → Each ws → Has (IsFineAction seen.nat) (sub_command seen s line ws)
 sub_fine seen section.Other line ws k e = tt

@@ -6,6 +6,7 @@ pub mod Names
 pub mod Runs
 pub mod InterfaceLines
 pub mod RouteLines
+pub mod RuleTexts
 pub mod RuleLines
 pub mod EntryWords
 pub mod Trailing

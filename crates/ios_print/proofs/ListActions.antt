@@ -28,7 +28,7 @@ use Rattle.ios_lines.specs.Books.{Book, next_sequence, has_sequence}
 use Rattle.ios_lines.proofs.Keyed.{Once}
 use Rattle.ios_commands.specs.Interfaces.{after_link_kind, interface_action, written_at, begins_secondary, after_secondary, address_action, plain_action, direction_at, group_action}
 use Rattle.ios_commands.specs.Routes.{route_at, route_action}
-use Rattle.ios_commands.specs.Translation.{clash, extendable_at, rule_action, address_rule, port_rule, static_action}
+use Rattle.ios_commands.specs.Translation.{clash, extendable_at, rule_action, address_rule, port_rule, static_action, outer_action}
 use Rattle.ios_commands.specs.Tables.{fits_row, refused_by, uncovered, global_rows, interface_rows}
 use Rattle.ios_lists.specs.declared.lists.Verb.{Verb}
 use Rattle.ios_lists.specs.declared.lists.Verb.TheVariants as verb
@@ -245,6 +245,12 @@ module _ (ls : List WrittenList) (s : Section) where
       if_has (IsFineAction ls s) (bytes_eq w.0 (codes "tcp")) (port_rule rules nat.Tcp w.1) _ (λ b. port_rule_fine rules nat.Tcp w.1) (λ b.
       if_has (IsFineAction ls s) (bytes_eq w.0 (codes "udp")) (port_rule rules nat.Udp w.1) (address_rule rules ws) (λ c. port_rule_fine rules nat.Udp w.1) (λ c. address_rule_fine rules ws)))
 
+  outer_fine : (rules : List NatRule) (ws : Words) → Has (IsFineAction ls s) (outer_action rules ws)
+  unfolding outer_action
+  outer_fine rules ws =
+      any_then (IsFineAction ls s) (address_at (command_refuses command_part.OuterGlobal) ws) _ (λ g.
+      any_then (IsFineAction ls s) (address_at none_refused g.1) _ (λ l. rule_fine rules _ _ _ l.1))
+
   uncovered_fine : (rows : List Words) (ws : Words) (g : Bool) → Has (IsFineAction ls s) (uncovered rows ws (action.Pass g))
   uncovered_fine rows ws g = go (option_map length (find (fits_row ws) rows))
     where
@@ -281,11 +287,12 @@ global_fine seen line ws are e =
     if_has (IsFine seen) (begins (codes "interface" ∷ []) ws) (interface_action (drop 1 ws)) _ (λ b. interface_fine seen.lists seen.section (drop 1 ws)) (λ b.
     if_has (IsFine seen) (begins (codes "ip" ∷ codes "route" ∷ []) ws) (route_action line (drop 2 ws)) _ (λ b. route_fine seen.lists seen.section line (drop 2 ws)) (λ b.
     if_has (IsFine seen) (begins (codes "ip" ∷ codes "nat" ∷ codes "inside" ∷ codes "source" ∷ codes "static" ∷ []) ws) (static_action seen.nat (drop 5 ws)) _ (λ b. static_fine seen.lists seen.section seen.nat (drop 5 ws)) (λ b.
+    if_has (IsFine seen) (begins (codes "ip" ∷ codes "nat" ∷ codes "outside" ∷ codes "source" ∷ codes "static" ∷ []) ws) (outer_action seen.nat (drop 5 ws)) _ (λ b. outer_fine seen.lists seen.section seen.nat (drop 5 ws)) (λ b.
     if_has (IsFine seen) (begins (codes "access-list" ∷ []) ws) (numbered_action seen.list_names seen.lists (drop 1 ws)) _
     (λ b. subst (λ ns. Has (IsFine seen) (numbered_action ns seen.lists (drop 1 ws))) (sym are.names) (numbered_fine seen.lists seen.section (drop 1 ws) are.written (each_drop 1 ws e))) (λ b.
     if_has (IsFine seen) (begins (codes "ip" ∷ codes "access-list" ∷ []) ws) (open_action seen.list_names seen.lists (drop 2 ws)) _
     (λ b. subst (λ ns. Has (IsFine seen) (open_action ns seen.lists (drop 2 ws))) (sym are.names) (open_fine seen.lists seen.section (drop 2 ws) are.once (each_drop 2 ws e))) (λ b.
-    uncovered_fine seen.lists seen.section global_rows ws true))))))
+    uncovered_fine seen.lists seen.section global_rows ws true)))))))
 
 sub_fine : (seen : Seen) (s : Section) (line : ℕ) (ws : Words) → seen.section ≡ s → AreSeen seen → Each ws → Has (IsFine seen) (sub_command seen s line ws)
 sub_fine seen section.Other line ws h are e = tt

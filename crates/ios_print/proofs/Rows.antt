@@ -26,7 +26,7 @@ use Rattle.net_types.specs.declared.config.FlagTest.{FlagTest}
 use Rattle.net_types.specs.declared.config.FlagTest.TheVariants as flags
 use Rattle.ios_words.specs.Words.{mask_of}
 use Rattle.ios_lines.specs.Words.{Word, Words}
-use Rattle.ios_print.specs.Print.{Row, subnet_words, primary_row, secondary_row, shut_rows, group_row, side_rows, interface_rows, exit_words, route_row, sides_with_ports, rule_words, rule_row, kind_word, verb_word, masked_words, proto_word, port_words, icmp_words, flag_word, flag_names, mask_words, flag_words, entry_words, entry_row, list_rows, config_rows}
+use Rattle.ios_print.specs.Print.{Row, subnet_words, primary_row, secondary_row, shut_rows, group_row, side_rows, interface_rows, exit_words, route_row, sides_with_ports, rule_words, rule_side, rule_row, kind_word, verb_word, masked_words, proto_word, port_words, icmp_words, flag_word, flag_names, mask_words, flag_words, entry_words, entry_row, list_rows, config_rows}
 use Rattle.ios_print.specs.Printable.{IsAddress, IsAddressIfAny, IsWordIfAny, IsInterface, AreInterfaces, IsExit, AreRoutes, IsPortPair, AreRules}
 use Rattle.ios_print.specs.PrintableLists.{IsMasked, IsProto, IsPortNumber, IsPortTest, IsIcmpTest, IsEntry, AreEntries, AreLists}
 use Rattle.ios_print.specs.PrintableConfig.{IsPrintable}
@@ -119,12 +119,19 @@ rule_each : (r : NatRule) (k : NatKind) → r.local < 4294967296 → r.global < 
 rule_each r nat.Plain a b p = (address_is_word r.local a, (address_is_word r.global b, tt))
 rule_each r nat.Tcp a b p = (search rules, sides_each r a b p.1 p.3)
 rule_each r nat.Udp a b p = (search rules, sides_each r a b p.1 p.3)
+rule_each r nat.Outer a b p = (address_is_word r.global b, (address_is_word r.local a, tt))
+
+side_is_word : (k : NatKind) → IsWord (rule_side k)
+side_is_word nat.Plain = search rules
+side_is_word nat.Tcp = search rules
+side_is_word nat.Udp = search rules
+side_is_word nat.Outer = search rules
 
 rules_rows : (before rs : List NatRule) → AreRules before rs → AreRows (map rule_row rs)
 rules_rows before [] a = tt
 rules_rows before (r ∷ rs) a = (
-  are_words (codes "ip") (codes "nat" ∷ codes "inside" ∷ codes "source" ∷ codes "static" ∷ rule_words r r.kind) (search rules)
-      (search rules, (search rules, (search rules, (search rules, rule_each r r.kind a.0.local a.0.global a.0.ports)))),
+  are_words (codes "ip") (codes "nat" ∷ rule_side r.kind ∷ codes "source" ∷ codes "static" ∷ rule_words r r.kind) (search rules)
+      (search rules, (side_is_word r.kind, (search rules, (search rules, rule_each r r.kind a.0.local a.0.global a.0.ports)))),
   rules_rows (before ++ r ∷ []) rs a.1,
 )
 

@@ -12,10 +12,10 @@ use Rattle.ios_lines.specs.declared.effect.Effect.TheVariants as effect
 use Rattle.ios_lines.specs.declared.effect.Section.{Section}
 use Rattle.ios_lines.specs.declared.effect.Section.TheVariants as section
 use Rattle.ios_lines.specs.Words.{Word, Words, address_at, number_at, allowed_word}
-use Rattle.ios_commands.specs.Translation.{rule_action, extendable_at, address_rule, port_rule, static_action}
+use Rattle.ios_commands.specs.Translation.{rule_action, extendable_at, address_rule, port_rule, static_action, outer_action}
 use Rattle.ios_config.specs.Effects.{Seen, command_action, global_command}
 use Rattle.ios_config.specs.Draft.{Parts, parts_after}
-use Rattle.ios_print.specs.Print.{address_word, sides_with_ports, rule_words, rule_row}
+use Rattle.ios_print.specs.Print.{address_word, sides_with_ports, rule_words, row_of, rule_row}
 use Rattle.ios_print.specs.Printable.{IsPortPair, IsRule, AreRules}
 use Rattle.ios_print.proofs.Digits.{address_back, digital_address, number_back, other_word}
 use Rattle.ios_print.proofs.Runs.{Shows, seen_by, Goes}
@@ -29,6 +29,11 @@ local_covered a h = let d = digital_address a h in rw (other_word (address_word 
 
 global_covered : (a : ℕ) → a < 4294967296 → command_refuses command_part.NatGlobal (address_word a) ≡ false
 global_covered a h = other_word (address_word a) 105 (codes "nterface") (digital_address a h) refl
+
+outer_covered : (a : ℕ) → a < 4294967296 → command_refuses command_part.OuterGlobal (address_word a) ≡ false
+outer_covered a h =
+    let d = digital_address a h in
+    rw (other_word (address_word a) 110 (codes "etwork") d refl, other_word (address_word a) 116 (codes "cp") d refl, other_word (address_word a) 117 (codes "dp") d refl, other_word (address_word a) 101 (codes "sp") d refl) refl
 
 abbrev plain : ℕ → ℕ → NatRule
 plain l g = record { kind = nat.Plain; local = l; local_port = 0; global = g; global_port = 0 }
@@ -60,34 +65,49 @@ udp_read rules ws = refl
 rule_made : (l g : ℕ) {j k : NatKind} {m n p q : ℕ} → j ≡ k → m ≡ n → p ≡ q → ported j l m g p ≡ ported k l n g q
 rule_made l g a b c = cc
 
-static_done : (rules : List NatRule) (r : NatRule) (k : NatKind) → r.kind ≡ k → IsPortPair r k → IsRule rules r → static_action rules (rule_words r k) ≡ Ok (action.Nat r)
-static_done rules r nat.Plain e p is =
+plain_done : (rules : List NatRule) (r : NatRule) → r.kind ≡ nat.Plain → r.local_port ≡ 0 → r.global_port ≡ 0 → IsRule rules r → static_action rules (rule_words r nat.Plain) ≡ Ok (action.Nat r)
+plain_done rules r e p q is =
     plain_read rules r.local r.global is.local is.global
-    ∙ ap (λ x. rule_action rules x (address_word r.local) (address_word r.global) []) (same e p.0 p.1)
+    ∙ ap (λ x. rule_action rules x (address_word r.local) (address_word r.global) []) (rule_made r.local r.global (sym e) (sym p) (sym q))
     ∙ ruled rules r (address_word r.local) (address_word r.global) is
-  where
-    same : r.kind ≡ nat.Plain → r.local_port ≡ 0 → r.global_port ≡ 0 → plain r.local r.global ≡ r
-    same e p q = rule_made r.local r.global (sym e) (sym p) (sym q)
-static_done rules r nat.Tcp e p is =
+
+tcp_done : (rules : List NatRule) (r : NatRule) → r.kind ≡ nat.Tcp → IsPortPair r nat.Tcp → IsRule rules r → static_action rules (rule_words r nat.Tcp) ≡ Ok (action.Nat r)
+tcp_done rules r e p is =
     tcp_read rules (sides_with_ports r)
     ∙ ports_read rules nat.Tcp r.local r.local_port r.global r.global_port is.local is.global p.0 p.1 p.2 p.3
-    ∙ ap (λ x. rule_action rules x (address_word r.local) (address_word r.global) []) (same e)
+    ∙ ap (λ x. rule_action rules x (address_word r.local) (address_word r.global) []) (rule_made r.local r.global (sym e) refl refl)
     ∙ ruled rules r (address_word r.local) (address_word r.global) is
-  where
-    same : r.kind ≡ nat.Tcp → ported nat.Tcp r.local r.local_port r.global r.global_port ≡ r
-    same e = rule_made r.local r.global (sym e) refl refl
-static_done rules r nat.Udp e p is =
+
+udp_done : (rules : List NatRule) (r : NatRule) → r.kind ≡ nat.Udp → IsPortPair r nat.Udp → IsRule rules r → static_action rules (rule_words r nat.Udp) ≡ Ok (action.Nat r)
+udp_done rules r e p is =
     udp_read rules (sides_with_ports r)
     ∙ ports_read rules nat.Udp r.local r.local_port r.global r.global_port is.local is.global p.0 p.1 p.2 p.3
-    ∙ ap (λ x. rule_action rules x (address_word r.local) (address_word r.global) []) (same e)
+    ∙ ap (λ x. rule_action rules x (address_word r.local) (address_word r.global) []) (rule_made r.local r.global (sym e) refl refl)
     ∙ ruled rules r (address_word r.local) (address_word r.global) is
-  where
-    same : r.kind ≡ nat.Udp → ported nat.Udp r.local r.local_port r.global r.global_port ≡ r
-    same e = rule_made r.local r.global (sym e) refl refl
 
-rule_done : (seen : Seen) (k : ℕ) (r : NatRule) → IsRule seen.nat r → command_action seen k false (rule_row r).1 ≡ Ok (action.Nat r)
+abbrev outer : ℕ → ℕ → NatRule
+outer l g = record { kind = nat.Outer; local = l; local_port = 0; global = g; global_port = 0 }
+
+outer_read : (rules : List NatRule) (l g : ℕ) → l < 4294967296 → g < 4294967296
+    → outer_action rules (address_word g ∷ address_word l ∷ []) ≡ rule_action rules (outer l g) (address_word l) (address_word g) []
+unfolding outer_action address_at allowed_word
+outer_read rules l g a b = rw (outer_covered g b, address_back g b, address_back l a) refl
+
+outer_done : (rules : List NatRule) (r : NatRule) → r.kind ≡ nat.Outer → r.local_port ≡ 0 → r.global_port ≡ 0 → IsRule rules r → outer_action rules (rule_words r nat.Outer) ≡ Ok (action.Nat r)
+outer_done rules r e p q is =
+    outer_read rules r.local r.global is.local is.global
+    ∙ ap (λ x. rule_action rules x (address_word r.local) (address_word r.global) []) (rule_made r.local r.global (sym e) (sym p) (sym q))
+    ∙ ruled rules r (address_word r.local) (address_word r.global) is
+
+row_done : (seen : Seen) (n : ℕ) (r : NatRule) (k : NatKind) → r.kind ≡ k → IsPortPair r k → IsRule seen.nat r → command_action seen n false (row_of r k).1 ≡ Ok (action.Nat r)
 unfolding command_action global_command
-rule_done seen k r is = static_done seen.nat r r.kind refl is.ports is
+row_done seen n r nat.Plain e p is = plain_done seen.nat r e p.0 p.1 is
+row_done seen n r nat.Tcp e p is = tcp_done seen.nat r e p is
+row_done seen n r nat.Udp e p is = udp_done seen.nat r e p is
+row_done seen n r nat.Outer e p is = outer_done seen.nat r e p.0 p.1 is
+
+rule_done : (seen : Seen) (n : ℕ) (r : NatRule) → IsRule seen.nat r → command_action seen n false (rule_row r).1 ≡ Ok (action.Nat r)
+rule_done seen n r is = row_done seen n r r.kind refl is.ports is
 
 abbrev pub with_rules : Config → List NatRule → Config
 with_rules c rs = record c { nat = rs }

@@ -89,9 +89,26 @@ abbrev pub rule_words : NatRule → NatKind → Words
 rule_words r nat.Plain = address_word r.local ∷ address_word r.global ∷ []
 rule_words r nat.Tcp = codes "tcp" ∷ sides_with_ports r
 rule_words r nat.Udp = codes "udp" ∷ sides_with_ports r
+rule_words r nat.Outer = address_word r.global ∷ address_word r.local ∷ []
+
+abbrev pub rule_side : NatKind → Word
+rule_side nat.Plain = codes "inside"
+rule_side nat.Tcp = codes "inside"
+rule_side nat.Udp = codes "inside"
+rule_side nat.Outer = codes "outside"
+
+-- the start of a rule's line, up to its sides
+abbrev pub rule_start : NatKind → Word
+rule_start nat.Plain = codes "ip nat inside source static"
+rule_start nat.Tcp = codes "ip nat inside source static"
+rule_start nat.Udp = codes "ip nat inside source static"
+rule_start nat.Outer = codes "ip nat outside source static"
+
+abbrev pub row_of : NatRule → NatKind → Row
+row_of r k = (false, codes "ip" ∷ codes "nat" ∷ rule_side k ∷ codes "source" ∷ codes "static" ∷ rule_words r k)
 
 abbrev pub rule_row : NatRule → Row
-rule_row r = (false, codes "ip" ∷ codes "nat" ∷ codes "inside" ∷ codes "source" ∷ codes "static" ∷ rule_words r r.kind)
+rule_row r = row_of r r.kind
 
 -- ---- access lists
 

@@ -73,6 +73,7 @@ AreRoutes (r ∷ rs) = IsRoute r × AreRoutes rs
 
 abbrev pub IsPortPair : NatRule → NatKind → Type 0
 IsPortPair r nat.Plain = (r.local_port ≡ 0) × (r.global_port ≡ 0)
+IsPortPair r nat.Outer = (r.local_port ≡ 0) × (r.global_port ≡ 0)
 IsPortPair r _ = (1 ≤ r.local_port) × (r.local_port ≤ 65535) × (1 ≤ r.global_port) × (r.global_port ≤ 65535)
 
 -- a rule of address translation, behind others

@@ -1,7 +1,7 @@
 //! Static routes and rules of address translation as text.
 ghost use Rattle.std.specs.Prelude.{◌≡◌, ◌++◌, ◌∷◌, [], decimal, OnOk};
 ghost use Rattle.net_text.specs.Texts.{spell};
-ghost use Rattle.ios_print.specs.Print.{subnet_words, exit_words, route_row, sides_with_ports, rule_words, rule_row};
+ghost use Rattle.ios_print.specs.Print.{subnet_words, exit_words, route_row, sides_with_ports, rule_words, rule_row, rule_start};
 ghost use Rattle.ios_print.specs.Tail.{tail};
 
 use crate::text::{append, append_address, append_number, append_subnet, append_word};
@@ -42,9 +42,19 @@ fn append_exit(out: &mut Vec<u8>, exit: &RouteExit) -> Result<(), NoMemory>
 pub fn append_rule(out: &mut Vec<u8>, rule: &NatRule) -> Result<(), NoMemory>
     ensures { OnOk result (out.new.items ≡ out.old.items ++ spell (rule_row rule.now)) }
 {
-    append(out, b"ip nat inside source static")?;
+    append(out, rule_start(rule.kind))?;
     append_sides(out, rule)?;
     append(out, b"\n")
+}
+
+// The start of a rule's line, up to its sides.
+fn rule_start(kind: NatKind) -> &'static [u8]
+    ensures { result.now ≡ rule_start kind }
+{
+    match kind {
+        NatKind::Plain | NatKind::Tcp | NatKind::Udp => b"ip nat inside source static",
+        NatKind::Outer => b"ip nat outside source static",
+    }
 }
 
 fn append_sides(out: &mut Vec<u8>, rule: &NatRule) -> Result<(), NoMemory>
@@ -62,6 +72,10 @@ fn append_sides(out: &mut Vec<u8>, rule: &NatRule) -> Result<(), NoMemory>
         NatKind::Udp => {
             append_word(out, b"udp")?;
             append_ports(out, rule)
+        }
+        NatKind::Outer => {
+            append_address(out, rule.global)?;
+            append_address(out, rule.local)
         }
     }
 }

@@ -1,4 +1,4 @@
-use Rattle.std.proofs.Common.{ℕ, ◌≡◌, ◌<◌, ◌≤◌, ◌^◌, ◌+◌, ◌*◌, ◌-◌, ◌/◌, ◌%◌, inl, inr, true, List, Option, Some, None, IsSome, slice_get, length, refl, ap, sym, ◌∙◌, subst, arith, bit_and, bit_or, true≢false}
+use Rattle.std.proofs.Common.{ℕ, ◌≡◌, ◌<◌, ◌≤◌, ◌^◌, ◌+◌, ◌*◌, ◌-◌, ◌/◌, ◌%◌, inl, inr, Bool, true, List, Option, Some, None, IsSome, slice_get, length, refl, ap, sym, ◌∙◌, subst, arith, bit_and, bit_or, true≢false}
 use Rattle.std.specs.Option.{option_or}
 use Rattle.std.specs.Int.{bit_at}
 use Rattle.std.proofs.lemmas.Bool.Decides.{eqb_tells}
@@ -13,15 +13,19 @@ use Rattle.hdr_bits.proofs.Numbers.{number-header_of, header_of-is_header}
 use Rattle.cube_alg.proofs.MaskLemmas.{least_holds}
 use Rattle.cube_alg.proofs.SplitLemmas.{free_zero}
 use Rattle.cube_alg.proofs.StampLemmas.{bits_below}
-use Rattle.cube_alg.specs.Stamps.{applied}
+use Rattle.cube_alg.specs.declared.stamp.Stamp.{Stamp}
+use Rattle.cube_alg.specs.Stamps.{applied, followed}
 use Rattle.std.proofs.lemmas.Option.{slice_get_past}
 use Rattle.net_types.specs.declared.config.NatRule.{NatRule}
 use Rattle.nat_static.specs.declared.rules.Direction.{Direction}
 use Rattle.nat_static.specs.declared.rules.Direction.TheVariants.{FromOutside, FromInside}
-use Rattle.nat_static.specs.Rules.{rule_stamp, fits, applying, translated, stamp_of, stamp_at, stamp_if}
-use Rattle.nat_static.specs.Pieces.{ReplacesFixed}
-use Rattle.nat_static.proofs.SideLemmas.{side_address, side_port}
-use Rattle.nat_static.proofs.RuleLemmas.{rule_fits, stamp_right}
+use Rattle.net_types.specs.declared.config.NatKind.{NatKind}
+use Rattle.net_types.specs.declared.config.NatKind.TheVariants.{Plain, Tcp, Udp, Outer}
+use Rattle.nat_static.specs.Sides.{destination_stamp, source_stamp}
+use Rattle.nat_static.specs.Rules.{written, rule_stamp, fits, applying, outer_applying, translated, stamp_of, stamp_at, stamp_if, stamps_if}
+use Rattle.nat_static.specs.Pieces.{ReplacesFixed, both_stamps}
+use Rattle.nat_static.proofs.SideLemmas.{has_side, is_at, side_address, side_port, outer_address}
+use Rattle.nat_static.proofs.RuleLemmas.{rule_fits, outer_rule_fits, both_right}
 
 -- a bit that is `*` lets the header's bit be 1
 abbrev with_one : Cube → ℕ → ℕ
@@ -54,22 +58,62 @@ digit_there c s w v k l a b f =
       | inr q ↦ rw q.0 refl
     ]
 
--- the headers of the cube all match the rule: so it fixes what the rule replaces
-pub rule_fixed : (d : Direction) (r : NatRule) (c : Cube) → ((h : ℕ) → h < 2 ^ 112 → IsIn c h → fits d (header_of h) r ≡ true) → ReplacesFixed (rule_stamp d r) c
-rule_fixed FromOutside r c f =
+-- all headers of the cube pass a test of their fields
+abbrev AllPass : (Header → Bool) → Cube → Type 0
+AllPass test c = (h : ℕ) → h < 2 ^ 112 → IsIn c h → test (header_of h) ≡ true
+
+-- an inner side: so the cube fixes what is written there
+to_fixed : (k : NatKind) (a p b q : ℕ) (c : Cube) → AllPass (λ g. has_side k a p g.proto g.dst g.dport) c → ReplacesFixed (destination_stamp k b q) c
+to_fixed k a p b q c f =
     record {
-      dst = λ _. λ k a b. digit_there c 80 32 r.global k (omega arith) (omega arith) (omega arith) (λ h l i. sym (side_address r.kind r.global r.global_port _ _ _ (f h l i)));
+      dst = λ _. λ i l h. digit_there c 80 32 a i (omega arith) (omega arith) (omega arith) (λ n m j. sym (side_address k a p _ _ _ (f n m j)));
       src = λ e. absurd (true≢false (sym e));
-      dport = λ e. λ k a b. digit_there c 24 16 r.global_port k (omega arith) (omega arith) (omega arith) (λ h l i. sym (side_port r.kind r.global r.global_port _ _ _ r.local_port (f h l i) e));
+      dport = λ e. λ i l h. digit_there c 24 16 p i (omega arith) (omega arith) (omega arith) (λ n m j. sym (side_port k a p _ _ _ q (f n m j) e));
       sport = λ e. absurd (true≢false (sym e));
     }
-rule_fixed FromInside r c f =
+
+from_fixed : (k : NatKind) (a p b q : ℕ) (c : Cube) → AllPass (λ g. has_side k a p g.proto g.src g.sport) c → ReplacesFixed (source_stamp k b q) c
+from_fixed k a p b q c f =
     record {
       dst = λ e. absurd (true≢false (sym e));
-      src = λ _. λ k a b. digit_there c 48 32 r.local k (omega arith) (omega arith) (omega arith) (λ h l i. sym (side_address r.kind r.local r.local_port _ _ _ (f h l i)));
+      src = λ _. λ i l h. digit_there c 48 32 a i (omega arith) (omega arith) (omega arith) (λ n m j. sym (side_address k a p _ _ _ (f n m j)));
       dport = λ e. absurd (true≢false (sym e));
-      sport = λ e. λ k a b. digit_there c 8 16 r.local_port k (omega arith) (omega arith) (omega arith) (λ h l i. sym (side_port r.kind r.local r.local_port _ _ _ r.global_port (f h l i) e));
+      sport = λ e. λ i l h. digit_there c 8 16 p i (omega arith) (omega arith) (omega arith) (λ n m j. sym (side_port k a p _ _ _ q (f n m j) e));
     }
+
+-- an outer side
+outer_src_fixed : (a b q : ℕ) (c : Cube) → AllPass (λ g. is_at FromOutside Outer a 0 g) c → ReplacesFixed (source_stamp Outer b q) c
+outer_src_fixed a b q c f =
+    record {
+      dst = λ e. absurd (true≢false (sym e));
+      src = λ _. λ i l h. digit_there c 48 32 a i (omega arith) (omega arith) (omega arith) (λ n m j. sym (outer_address a _ (f n m j)));
+      dport = λ e. absurd (true≢false (sym e));
+      sport = λ e. absurd (true≢false (sym e));
+    }
+
+outer_dst_fixed : (a b q : ℕ) (c : Cube) → AllPass (λ g. is_at FromInside Outer a 0 g) c → ReplacesFixed (destination_stamp Outer b q) c
+outer_dst_fixed a b q c f =
+    record {
+      dst = λ _. λ i l h. digit_there c 80 32 a i (omega arith) (omega arith) (omega arith) (λ n m j. sym (outer_address a _ (f n m j)));
+      src = λ e. absurd (true≢false (sym e));
+      dport = λ e. absurd (true≢false (sym e));
+      sport = λ e. absurd (true≢false (sym e));
+    }
+
+side_fixed : (d : Direction) (k : NatKind) (a p b q : ℕ) (c : Cube) → AllPass (is_at d k a p) c → ReplacesFixed (written d k b q) c
+side_fixed FromOutside Plain a p b q c f = to_fixed Plain a p b q c f
+side_fixed FromOutside Tcp a p b q c f = to_fixed Tcp a p b q c f
+side_fixed FromOutside Udp a p b q c f = to_fixed Udp a p b q c f
+side_fixed FromOutside Outer a p b q c f = outer_src_fixed a b q c f
+side_fixed FromInside Plain a p b q c f = from_fixed Plain a p b q c f
+side_fixed FromInside Tcp a p b q c f = from_fixed Tcp a p b q c f
+side_fixed FromInside Udp a p b q c f = from_fixed Udp a p b q c f
+side_fixed FromInside Outer a p b q c f = outer_dst_fixed a b q c f
+
+-- the headers of the cube all match the rule: so it fixes what the rule replaces
+rule_fixed : (d : Direction) (r : NatRule) (c : Cube) → AllPass (λ g. fits d g r) c → ReplacesFixed (rule_stamp d r) c
+rule_fixed FromOutside r c f = side_fixed FromOutside r.kind r.global r.global_port r.local r.local_port c f
+rule_fixed FromInside r c f = side_fixed FromInside r.kind r.local r.local_port r.global r.global_port c f
 
 none_fixed : (c : Cube) → ReplacesFixed (record { src = None; dst = None; sport = None; dport = None }) c
 none_fixed c =
@@ -80,22 +124,66 @@ none_fixed c =
       sport = λ e. absurd (true≢false (sym e));
     }
 
-fixed_case : (d : Direction) (rules : List NatRule) (n : ℕ) (c : Cube) (o : Option NatRule) → slice_get rules n ≡ o → ((h : Header) → IsHeader h → IsIn c (number h) → option_or (applying d rules h) (Some (length rules)) ≡ Some n) → ReplacesFixed (stamp_of (rule_stamp d) o) c
-fixed_case d rules n c None e f = none_fixed c
-fixed_case d rules n c (Some r) e f =
-    rule_fixed d r c (λ h l i. rule_fits d rules (header_of h) n r e (f (header_of h) (header_of-is_header h) (subst (λ x. IsIn c x) (sym (number-header_of h l)) i)))
+-- the rule of this number applies to all headers of the cube
+abbrev AllHave : (Header → Option ℕ) → List NatRule → ℕ → Cube → Type 0
+AllHave rule rules n c = (h : Header) → IsHeader h → IsIn c (number h) → option_or (rule h) (Some (length rules)) ≡ Some n
 
-pub stamp_fixed : (d : Direction) (rules : List NatRule) (n : ℕ) (c : Cube) → ((h : Header) → IsHeader h → IsIn c (number h) → option_or (applying d rules h) (Some (length rules)) ≡ Some n) → ReplacesFixed (stamp_at (rule_stamp d) rules n) c
-stamp_fixed d rules n c f = fixed_case d rules n c (slice_get rules n) refl f
+fixed_case : (d : Direction) (rules : List NatRule) (rule : Header → Option ℕ) (n : ℕ) (c : Cube) (o : Option NatRule) → slice_get rules n ≡ o → ((h : Header) (r : NatRule) → slice_get rules n ≡ Some r → option_or (rule h) (Some (length rules)) ≡ Some n → fits d h r ≡ true) → AllHave rule rules n c → ReplacesFixed (stamp_of (rule_stamp d) o) c
+fixed_case d rules rule n c None e m f = none_fixed c
+fixed_case d rules rule n c (Some r) e m f =
+    rule_fixed d r c (λ h l i. m (header_of h) r e (f (header_of h) (header_of-is_header h) (subst (λ x. IsIn c x) (sym (number-header_of h l)) i)))
 
--- the same for the optional number of the rule that applies
-pub right_if : (d : Direction) (rules : List NatRule) (h : Header) (o : Option ℕ) → applying d rules h ≡ o → applied (stamp_if (rule_stamp d) rules o) h ≡ translated d rules h
-right_if d rules h None e =
+stamp_fixed : (d : Direction) (rules : List NatRule) (n : ℕ) (c : Cube) → AllHave (applying d rules) rules n c → ReplacesFixed (stamp_at (rule_stamp d) rules n) c
+stamp_fixed d rules n c f = fixed_case d rules (applying d rules) n c (slice_get rules n) refl (λ h r e g. rule_fits d rules h n r e g) f
+
+outer_fixed : (d : Direction) (rules : List NatRule) (n : ℕ) (c : Cube) → AllHave (outer_applying d rules) rules n c → ReplacesFixed (stamp_at (rule_stamp d) rules n) c
+outer_fixed d rules n c f = fixed_case d rules (outer_applying d rules) n c (slice_get rules n) refl (λ h r e g. outer_rule_fits d rules h n r e g) f
+
+-- ---- both stamps
+either_fixed : (o p : Option ℕ) (F : Type 0) → (IsSome o → F) → (IsSome p → F) → IsSome (option_or p o) → F
+either_fixed o None F a b e = a e
+either_fixed o (Some v) F a b e = b refl
+
+followed_fixed : (s t : Stamp) (c : Cube) → ReplacesFixed s c → ReplacesFixed t c → ReplacesFixed (followed s t) c
+followed_fixed s t c a b =
+    record {
+      dst = either_fixed s.dst t.dst _ a.dst b.dst;
+      src = either_fixed s.src t.src _ a.src b.src;
+      dport = either_fixed s.dport t.dport _ a.dport b.dport;
+      sport = either_fixed s.sport t.sport _ a.sport b.sport;
+    }
+
+pub both_fixed : (d : Direction) (rules : List NatRule) (n m : ℕ) (c : Cube) → AllHave (applying d rules) rules n c → AllHave (outer_applying d rules) rules m c → ReplacesFixed (both_stamps d rules n m) c
+both_fixed d rules n m c f g =
+    followed_fixed (stamp_at (rule_stamp d) rules n) (stamp_at (rule_stamp d) rules m) c (stamp_fixed d rules n c f) (outer_fixed d rules m c g)
+
+-- ---- the same for the optional numbers of the rules that apply
+-- no rule is as the rule whose number is the count of rules
+abbrev numbered : List NatRule → Option ℕ → ℕ
+numbered rules None = length rules
+numbered rules (Some n) = n
+
+or_numbered : (rules : List NatRule) (o : Option ℕ) → option_or o (Some (length rules)) ≡ Some (numbered rules o)
+or_numbered rules None = refl
+or_numbered rules (Some n) = refl
+
+stamp_numbered : (d : Direction) (rules : List NatRule) (o : Option ℕ) → stamp_if (rule_stamp d) rules o ≡ stamp_at (rule_stamp d) rules (numbered rules o)
+stamp_numbered d rules None =
     let l : length rules ≤ length rules = omega arith in
-    ap (λ x. applied (stamp_of (rule_stamp d) x) h) (sym (slice_get_past rules (length rules) l)) ∙ stamp_right d rules h (length rules) (ap (λ x. option_or x (Some (length rules))) e)
-right_if d rules h (Some n) e = stamp_right d rules h n (ap (λ x. option_or x (Some (length rules))) e)
+    ap (stamp_of (rule_stamp d)) (sym (slice_get_past rules (length rules) l))
+stamp_numbered d rules (Some n) = refl
 
-pub fixed_if : (d : Direction) (rules : List NatRule) (c : Cube) (o : Option ℕ) → ((h : Header) → IsHeader h → IsIn c (number h) → applying d rules h ≡ o) → ReplacesFixed (stamp_if (rule_stamp d) rules o) c
-fixed_if d rules c None f = none_fixed c
-fixed_if d rules c (Some n) f =
-    stamp_fixed d rules n c (λ h valid i. ap (λ x. option_or x (Some (length rules))) (f h valid i))
+stamps_numbered : (d : Direction) (rules : List NatRule) (o p : Option ℕ) → stamps_if (rule_stamp d) rules o p ≡ both_stamps d rules (numbered rules o) (numbered rules p)
+stamps_numbered d rules o p =
+    ap (λ s. followed s (stamp_if (rule_stamp d) rules p)) (stamp_numbered d rules o) ∙ ap (followed (stamp_at (rule_stamp d) rules (numbered rules o))) (stamp_numbered d rules p)
+
+has_number : (rules : List NatRule) (x o : Option ℕ) → x ≡ o → option_or x (Some (length rules)) ≡ Some (numbered rules o)
+has_number rules x o e = ap (λ y. option_or y (Some (length rules))) e ∙ or_numbered rules o
+
+pub right_if : (d : Direction) (rules : List NatRule) (h : Header) (o p : Option ℕ) → applying d rules h ≡ o → outer_applying d rules h ≡ p → applied (stamps_if (rule_stamp d) rules o p) h ≡ translated d rules h
+right_if d rules h o p e f =
+    ap (λ s. applied s h) (stamps_numbered d rules o p) ∙ both_right d rules h (numbered rules o) (numbered rules p) (has_number rules (applying d rules h) o e) (has_number rules (outer_applying d rules h) p f)
+
+pub fixed_if : (d : Direction) (rules : List NatRule) (c : Cube) (o p : Option ℕ) → ((h : Header) → IsHeader h → IsIn c (number h) → applying d rules h ≡ o) → ((h : Header) → IsHeader h → IsIn c (number h) → outer_applying d rules h ≡ p) → ReplacesFixed (stamps_if (rule_stamp d) rules o p) c
+fixed_if d rules c o p f g =
+    subst (λ s. ReplacesFixed s c) (sym (stamps_numbered d rules o p)) (both_fixed d rules (numbered rules o) (numbered rules p) c (λ h v i. has_number rules (applying d rules h) o (f h v i)) (λ h v i. has_number rules (outer_applying d rules h) p (g h v i)))

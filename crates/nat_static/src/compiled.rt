@@ -1,20 +1,21 @@
 //! All headers at once.
 
-ghost use Rattle.std.specs.Prelude.{◌≡◌, map, All, AllPairs, Any, IfOk, OnOk};
+ghost use Rattle.std.specs.Prelude.{◌≡◌, ◌++◌, ℕ, map, length, Some, All, AllPairs, Any, IfOk, OnOk};
+ghost use Rattle.std.specs.Option.{option_or};
 ghost use Rattle.hdr_bits.specs.declared.header.Header.{Header};
 ghost use Rattle.hdr_bits.specs.declared.cube.Cube.{Cube};
 ghost use Rattle.hdr_bits.specs.HeaderBits.{number, IsHeader};
 ghost use Rattle.hdr_bits.specs.CubeBits.{IsIn};
-ghost use Rattle.cube_alg.specs.Pieces.{value_of};
+ghost use Rattle.cube_alg.specs.Pieces.{value_of, AreApartPieces};
 ghost use Rattle.cube_alg.specs.Stamps.{applied};
 ghost use Rattle.net_types.specs.Translation.{from_outside, from_inside};
-ghost use Rattle.nat_static.specs.Rules.{outside_stamp, inside_stamp, rule_from_outside, rule_from_inside, rule_stamp, stamp_at, stamp_if, applying, translated};
-ghost use Rattle.nat_static.specs.Pieces.{ReplacesFixed, AreApartStamps, Translates, AddsRules};
+ghost use Rattle.nat_static.specs.Rules.{outside_stamp, inside_stamp, rule_from_outside, rule_from_inside, outer_from_outside, outer_from_inside};
+ghost use Rattle.nat_static.specs.Rules.{rule_stamp, stamp_at, stamp_if, stamps_if, applying, outer_applying, translated};
+ghost use Rattle.nat_static.specs.Pieces.{ReplacesFixed, AreApartStamps, Translates, AddsRules, TellRule, HasRule, AddsStamps, AreStamps, with_stamps};
 
-use crate::rules::{Direction, rule_cube, rule_stamp};
-use cube_alg::{Piece, Stamp, first_cut};
+use crate::rules::{Direction, Group, is_in_group, rule_cube, rule_stamp};
+use cube_alg::{Piece, Stamp, cut_within, first_cut};
 use hdr_bits::Cube;
-use header_rules::is_plain;
 use net_types::NatRule;
 use no_memory::NoMemory;
 use std::alloc::Global;
@@ -39,8 +40,8 @@ pub fn compile_inside(alloc: Global, rules: &[NatRule]) -> Result<Vec<(Cube, Sta
     compile(alloc, Direction::FromInside, rules)
 }
 
-/// The rules as pieces, each with its rule's number: the first piece that holds a header is the rule that
-/// applies to it from outside, and where none does no rule applies.
+/// The port and plain rules as pieces, each with its rule's number: the first piece that holds a header is the rule that
+/// replaces its destination from outside, and where none does no rule does.
 pub fn outside_pieces(alloc: Global, rules: &[NatRule]) -> Result<Vec<Piece>, NoMemory>
     ensures { IfOk result
         (λ r. (h : Header) → IsHeader h → value_of r.items (number h) ≡ rule_from_outside rules.now h) }
@@ -48,8 +49,17 @@ pub fn outside_pieces(alloc: Global, rules: &[NatRule]) -> Result<Vec<Piece>, No
     rule_pieces(alloc, Direction::FromOutside, rules)
 }
 
-/// The rules as pieces, each with its rule's number: the first piece that holds a header is the rule that
-/// applies to it from inside, and where none does no rule applies.
+/// The outer rules as pieces, each with its rule's number: the first piece that holds a header is the rule that replaces
+/// its source from outside, and where none does no rule does.
+pub fn outer_outside_pieces(alloc: Global, rules: &[NatRule]) -> Result<Vec<Piece>, NoMemory>
+    ensures { IfOk result
+        (λ r. (h : Header) → IsHeader h → value_of r.items (number h) ≡ outer_from_outside rules.now h) }
+{
+    outer_pieces(alloc, Direction::FromOutside, rules)
+}
+
+/// The port and plain rules as pieces, each with its rule's number: the first piece that holds a header is the rule that
+/// replaces its source from inside, and where none does no rule does.
 pub fn inside_pieces(alloc: Global, rules: &[NatRule]) -> Result<Vec<Piece>, NoMemory>
     ensures { IfOk result
         (λ r. (h : Header) → IsHeader h → value_of r.items (number h) ≡ rule_from_inside rules.now h) }
@@ -57,28 +67,38 @@ pub fn inside_pieces(alloc: Global, rules: &[NatRule]) -> Result<Vec<Piece>, NoM
     rule_pieces(alloc, Direction::FromInside, rules)
 }
 
-/// What the rule with this number replaces from outside: its local side as the destination. Nothing is
-/// replaced without a number, which is so where no rule applies, or where there is no such rule.
-pub fn outside_stamp(rules: &[NatRule], rule: Option<u32>) -> Stamp
-    ensures stamp { result ≡ stamp_if outside_stamp rules.now rule }
-    ensures applies { (h : Header) → rule_from_outside rules.now h ≡ rule → applied result h ≡ from_outside rules.now h }
-
-    // Where the rule applies to each header of a cube, the cube fixes what the rule replaces.
-    ensures fixed { (c : Cube) → ((h : Header) → IsHeader h → IsIn c (number h) → rule_from_outside rules.now h ≡ rule) → ReplacesFixed result c }
+/// The outer rules as pieces, each with its rule's number: the first piece that holds a header is the rule that replaces
+/// its destination from inside, and where none does no rule does.
+pub fn outer_inside_pieces(alloc: Global, rules: &[NatRule]) -> Result<Vec<Piece>, NoMemory>
+    ensures { IfOk result
+        (λ r. (h : Header) → IsHeader h → value_of r.items (number h) ≡ outer_from_inside rules.now h) }
 {
-    stamp_if(Direction::FromOutside, rules, rule)
+    outer_pieces(alloc, Direction::FromInside, rules)
 }
 
-/// What the rule with this number replaces from inside: its global side as the source. Nothing is replaced
-/// without a number, which is so where no rule applies, or where there is no such rule.
-pub fn inside_stamp(rules: &[NatRule], rule: Option<u32>) -> Stamp
-    ensures stamp { result ≡ stamp_if inside_stamp rules.now rule }
-    ensures applies { (h : Header) → rule_from_inside rules.now h ≡ rule → applied result h ≡ from_inside rules.now h }
+/// What these two rules replace from outside: a port or plain rule the destination, an outer rule the source, each by its
+/// local side. A rule is named by its number; nothing is replaced without one, which is so where no rule applies, or
+/// where there is no such rule.
+pub fn outside_stamp(rules: &[NatRule], rule: Option<u32>, outer: Option<u32>) -> Stamp
+    ensures stamp { result ≡ stamps_if outside_stamp rules.now rule outer }
+    ensures applies { (h : Header) → rule_from_outside rules.now h ≡ rule → outer_from_outside rules.now h ≡ outer → applied result h ≡ from_outside rules.now h }
 
-    // Where the rule applies to each header of a cube, the cube fixes what the rule replaces.
-    ensures fixed { (c : Cube) → ((h : Header) → IsHeader h → IsIn c (number h) → rule_from_inside rules.now h ≡ rule) → ReplacesFixed result c }
+    // Where the rules apply to each header of a cube, the cube fixes what they replace.
+    ensures fixed { (c : Cube) → ((h : Header) → IsHeader h → IsIn c (number h) → rule_from_outside rules.now h ≡ rule) → ((h : Header) → IsHeader h → IsIn c (number h) → outer_from_outside rules.now h ≡ outer) → ReplacesFixed result c }
 {
-    stamp_if(Direction::FromInside, rules, rule)
+    stamps_if(Direction::FromOutside, rules, rule, outer)
+}
+
+/// What these two rules replace from inside: a port or plain rule the source, an outer rule the destination, each by its
+/// global side. Nothing is replaced without a number, as from outside.
+pub fn inside_stamp(rules: &[NatRule], rule: Option<u32>, outer: Option<u32>) -> Stamp
+    ensures stamp { result ≡ stamps_if inside_stamp rules.now rule outer }
+    ensures applies { (h : Header) → rule_from_inside rules.now h ≡ rule → outer_from_inside rules.now h ≡ outer → applied result h ≡ from_inside rules.now h }
+
+    // Where the rules apply to each header of a cube, the cube fixes what they replace.
+    ensures fixed { (c : Cube) → ((h : Header) → IsHeader h → IsIn c (number h) → rule_from_inside rules.now h ≡ rule) → ((h : Header) → IsHeader h → IsIn c (number h) → outer_from_inside rules.now h ≡ outer) → ReplacesFixed result c }
+{
+    stamps_if(Direction::FromInside, rules, rule, outer)
 }
 
 fn compile(
@@ -91,15 +111,26 @@ fn compile(
     ensures exact { IfOk result (λ r. All (Translates (translated direction rules.now)) r.items) }
     ensures fixed { IfOk result (λ r. All (λ p. ReplacesFixed p.1 p.0) r.items) }
 {
-    let mut pieces = rule_pieces(alloc, direction, rules)?;
+    let inner_rules = rule_pieces(alloc, direction, rules)?;
+    let outer_rules = outer_pieces(alloc, direction, rules)?;
+    let pieces = closed(inner_rules, rules)?;
+    let outer = closed(outer_rules, rules)?;
+    let parts = first_cut(alloc, &pieces)?;
+    let stamps = stamps_of(alloc, direction, rules, &parts, &outer)?;
+    Ok(stamps)
+}
+
+// The pieces, and behind them one of all headers with the count of the rules.
+fn closed(pieces: Vec<Piece>, rules: &[NatRule]) -> Result<Vec<Piece>, NoMemory>
+    ensures { IfOk result (λ r. (h : ℕ) → value_of r.items h ≡ option_or (value_of pieces.items h) (Some (length rules.now))) }
+{
+    let mut closed = pieces;
     let rest = Piece {
         cube: Cube::all(),
         value: number_of(rules.len())?,
     };
-    pieces.push(rest)?;
-    let parts = first_cut(alloc, &pieces)?;
-    let stamps = stamps_of(alloc, direction, rules, &parts)?;
-    Ok(stamps)
+    closed.push(rest)?;
+    Ok(closed)
 }
 
 // The number of this position. There is no memory for so many rules that their numbers don't fit.
@@ -109,7 +140,7 @@ fn number_of(position: usize) -> Result<u32, NoMemory>
     u32::try_from(position).map_err(|_| NoMemory)
 }
 
-// A piece for each rule, port rules before plain ones.
+// A piece for each port rule and then for each plain one.
 fn rule_pieces(
     alloc: Global,
     direction: Direction,
@@ -119,22 +150,36 @@ fn rule_pieces(
         (λ r. (h : Header) → IsHeader h → value_of r.items (number h) ≡ applying direction rules.now h) }
 {
     let mut pieces = Vec::with_capacity(alloc, rules.len())?;
-    add_rules(false, direction, rules, &mut pieces)?;
-    add_rules(true, direction, rules, &mut pieces)?;
+    add_rules(Group::Port, direction, rules, &mut pieces)?;
+    add_rules(Group::Plain, direction, rules, &mut pieces)?;
     Ok(pieces)
 }
 
-// Adds a piece for each plain rule, or for each port rule.
+// A piece for each outer rule.
+fn outer_pieces(
+    alloc: Global,
+    direction: Direction,
+    rules: &[NatRule],
+) -> Result<Vec<Piece>, NoMemory>
+    ensures { IfOk result
+        (λ r. (h : Header) → IsHeader h → value_of r.items (number h) ≡ outer_applying direction rules.now h) }
+{
+    let mut pieces = Vec::new(alloc);
+    add_rules(Group::Outer, direction, rules, &mut pieces)?;
+    Ok(pieces)
+}
+
+// Adds a piece for each rule of the group.
 fn add_rules(
-    plain: bool,
+    group: Group,
     direction: Direction,
     rules: &[NatRule],
     pieces: &mut Vec<Piece>,
 ) -> Result<(), NoMemory>
-    ensures { OnOk result (AddsRules plain direction rules.now pieces.old.items pieces.new.items) }
+    ensures { OnOk result (AddsRules group direction rules.now pieces.old.items pieces.new.items) }
 {
     for (i, rule) in rules.iter().enumerate() {
-        if is_plain(rule.kind) != plain {
+        if !is_in_group(group, rule.kind) {
             continue;
         }
         let cube = rule_cube(direction, rule);
@@ -142,6 +187,18 @@ fn add_rules(
         pieces.push(Piece { cube, value })?;
     }
     Ok(())
+}
+
+// The stamp of both rules.
+fn stamps_if(
+    direction: Direction,
+    rules: &[NatRule],
+    rule: Option<u32>,
+    outer: Option<u32>,
+) -> Stamp
+    ensures { result ≡ stamps_if (rule_stamp direction) rules.now rule outer }
+{
+    stamp_if(direction, rules, rule).then(&stamp_if(direction, rules, outer))
 }
 
 // The stamp of the rule with this number, if there is one.
@@ -164,18 +221,58 @@ fn stamp_at(direction: Direction, rules: &[NatRule], number: u32) -> Stamp
     }
 }
 
-// The stamps of the pieces' rules.
+// The stamps for disjoint parts of all headers, each with the number of its port or plain rule, divided by the outer rules.
 fn stamps_of(
     alloc: Global,
     direction: Direction,
     rules: &[NatRule],
     parts: &[Piece],
+    outer: &[Piece],
 ) -> Result<Vec<(Cube, Stamp)>, NoMemory>
-    ensures { IfOk result (λ r. r.items ≡ map (λ p. (p.cube, stamp_at (rule_stamp direction) rules.now p.value)) parts.now) }
+    requires apart { AllPairs AreApartPieces parts.now }
+    requires parts { All (HasRule (applying direction rules.now) rules.now) parts.now }
+    requires outer { TellRule (outer_applying direction rules.now) rules.now outer.now }
+    ensures { IfOk result (λ r. AreStamps direction rules.now parts.now r.items) }
 {
     let mut stamps = Vec::with_capacity(alloc, parts.len())?;
-    for p in parts {
-        stamps.push((p.cube, stamp_at(direction, rules, p.value)))?;
+    for part in parts {
+        add_stamps(alloc, direction, rules, part, outer, &mut stamps)?;
     }
     Ok(stamps)
+}
+
+// Of one of these parts.
+fn add_stamps(
+    alloc: Global,
+    direction: Direction,
+    rules: &[NatRule],
+    part: &Piece,
+    outer: &[Piece],
+    stamps: &mut Vec<(Cube, Stamp)>,
+) -> Result<(), NoMemory>
+    requires part { HasRule (applying direction rules.now) rules.now part.now }
+    requires outer { TellRule (outer_applying direction rules.now) rules.now outer.now }
+    ensures { OnOk result (AddsStamps direction rules.now part.now.cube stamps.old.items stamps.new.items) }
+{
+    let divided = cut_within(alloc, outer, &part.cube)?;
+    add_with(direction, rules, part.value, &divided, stamps)?;
+    Ok(())
+}
+
+// Adds each part's cube with the stamp of the rule of this number and of the part's.
+fn add_with(
+    direction: Direction,
+    rules: &[NatRule],
+    rule: u32,
+    parts: &[Piece],
+    stamps: &mut Vec<(Cube, Stamp)>,
+) -> Result<(), NoMemory>
+    ensures { OnOk result (stamps.new.items ≡ stamps.old.items ++ map (with_stamps direction rules.now rule) parts.now) }
+{
+    let stamp = stamp_at(direction, rules, rule);
+    for p in parts {
+        let both = stamp.then(&stamp_at(direction, rules, p.value));
+        stamps.push((p.cube, both))?;
+    }
+    Ok(())
 }

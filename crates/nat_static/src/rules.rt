@@ -7,19 +7,39 @@ ghost use Rattle.hdr_bits.specs.CubeBits.{IsIn};
 
 use cube_alg::Stamp;
 use hdr_bits::Cube;
+use header_rules::is_outer;
 use net_types::{NatKind, NatRule};
 
 /// From which side a packet comes.
 #[derive(Clone, Copy)]
 pub(crate) enum Direction {
-    /// From outside to inside: the destination is translated, from global to local.
+    /// From outside to inside: from global to local.
     FromOutside,
-    /// From inside to outside: the source is translated, from local to global.
+    /// From inside to outside: from local to global.
     FromInside,
 }
 
+/// Rules of which the first that matches applies.
+#[derive(Clone, Copy)]
+pub(crate) enum Group {
+    Port,
+    Plain,
+    Outer,
+}
+
 ghost use Rattle.nat_static.specs.Sides.{destination_stamp, source_stamp, is_protocol};
-ghost use Rattle.nat_static.specs.Rules.{rule_stamp, fits, matched_side};
+ghost use Rattle.nat_static.specs.Rules.{rule_stamp, fits, is_in_group, matched_side, written};
+
+/// Whether a rule of this kind is in the group.
+pub(crate) fn is_in_group(group: Group, kind: NatKind) -> bool
+    ensures { result ≡ is_in_group group kind }
+{
+    match group {
+        Group::Port => matches!(kind, NatKind::Tcp | NatKind::Udp),
+        Group::Plain => matches!(kind, NatKind::Plain),
+        Group::Outer => matches!(kind, NatKind::Outer),
+    }
+}
 
 /// The headers that the rule matches in this direction: those with the side that it replaces.
 pub(crate) fn rule_cube(direction: Direction, rule: &NatRule) -> Cube
@@ -33,8 +53,8 @@ pub(crate) fn rule_stamp(direction: Direction, rule: &NatRule) -> Stamp
     ensures { result ≡ rule_stamp direction rule.now }
 {
     match direction {
-        Direction::FromOutside => destination_stamp(rule.kind, rule.local, rule.local_port),
-        Direction::FromInside => source_stamp(rule.kind, rule.global, rule.global_port),
+        Direction::FromOutside => written(direction, rule.kind, rule.local, rule.local_port),
+        Direction::FromInside => written(direction, rule.kind, rule.global, rule.global_port),
     }
 }
 
@@ -43,17 +63,33 @@ fn matched_side(direction: Direction, rule: &NatRule) -> Stamp
     ensures { result ≡ matched_side direction rule.now }
 {
     match direction {
-        Direction::FromOutside => destination_stamp(rule.kind, rule.global, rule.global_port),
-        Direction::FromInside => source_stamp(rule.kind, rule.local, rule.local_port),
+        Direction::FromOutside => written(direction, rule.kind, rule.global, rule.global_port),
+        Direction::FromInside => written(direction, rule.kind, rule.local, rule.local_port),
     }
 }
 
-// The stamp that writes a side as the destination; a plain rule's side has no port.
+// The stamp that writes a side where rules of this kind replace it: a host inside is the destination from outside and
+// the source from inside, and a host outside the other way round.
+fn written(direction: Direction, kind: NatKind, address: u32, port: u16) -> Stamp
+    ensures { result ≡ written direction kind address port }
+{
+    let is_source = match direction {
+        Direction::FromOutside => is_outer(kind),
+        Direction::FromInside => !is_outer(kind),
+    };
+    if is_source {
+        source_stamp(kind, address, port)
+    } else {
+        destination_stamp(kind, address, port)
+    }
+}
+
+// The stamp that writes a side as the destination; only a port rule's side has a port.
 fn destination_stamp(kind: NatKind, address: u32, port: u16) -> Stamp
     ensures { result ≡ destination_stamp kind address port }
 {
     match kind {
-        NatKind::Plain => Stamp {
+        NatKind::Plain | NatKind::Outer => Stamp {
             dst: Some(address),
             ..Stamp::none()
         },
@@ -70,7 +106,7 @@ fn source_stamp(kind: NatKind, address: u32, port: u16) -> Stamp
     ensures { result ≡ source_stamp kind address port }
 {
     match kind {
-        NatKind::Plain => Stamp {
+        NatKind::Plain | NatKind::Outer => Stamp {
             src: Some(address),
             ..Stamp::none()
         },
@@ -87,7 +123,7 @@ fn protocol_cube(kind: NatKind) -> Cube
     ensures { (h : ℕ) → IsIn result h ↔ IsTrue (is_protocol kind h) }
 {
     match kind {
-        NatKind::Plain => Cube::all(),
+        NatKind::Plain | NatKind::Outer => Cube::all(),
         NatKind::Tcp => protocol(6),
         NatKind::Udp => protocol(17),
     }

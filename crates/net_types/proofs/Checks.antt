@@ -8,7 +8,7 @@ use Rattle.net_types.specs.declared.config.Entry.{Entry}
 use Rattle.net_types.specs.declared.config.Interface.{Interface}
 use Rattle.net_types.specs.declared.config.Masked.{Masked}
 use Rattle.net_types.specs.declared.config.NatRule.{NatRule}
-use Rattle.net_types.specs.declared.config.NatKind.TheVariants.{Plain, Tcp}
+use Rattle.net_types.specs.declared.config.NatKind.TheVariants.{Plain, Tcp, Outer}
 use Rattle.net_types.specs.declared.config.PortTest.TheVariants as port
 use Rattle.net_types.specs.declared.config.IcmpTest.TheVariants as icmp
 use Rattle.net_types.specs.declared.config.FlagTest.TheVariants as flag
@@ -51,6 +51,9 @@ slash24 a = record { address = a; length = 24; in_range = lit≤ tt }
 
 abbrev slash16 : ℕ → Subnet
 slash16 a = record { address = a; length = 16; in_range = lit≤ tt }
+
+abbrev host_prefix : ℕ → Subnet
+host_prefix a = record { address = a; length = 32; in_range = lit≤ tt }
 
 abbrev everything : Subnet
 everything = record { address = 0; length = 0; in_range = lit≤ tt }
@@ -247,6 +250,50 @@ there_and_back_is_the_same = refl
 there_alone_changes_the_source : label (linked there (and_back [])) 8 (place 3 0) from_10_0_0_5 ≡ end.Exit (place 4 1) (Some (address 203 0 113 5)) None None None ∷ []
 unfolding label
 there_alone_changes_the_source = refl
+
+-- ---- hosts outside: the host 198.51.100.7 is 10.8.0.7 inside
+
+abbrev outer_rule : ℕ → ℕ → NatRule
+outer_rule global local = record { kind = Outer; local = local; local_port = 0; global = global; global_port = 0 }
+
+abbrev both_kinds : List NatRule
+both_kinds = static_rule (address 10 0 0 5) (address 203 0 113 5) ∷ outer_rule (address 198 51 100 7) (address 10 8 0 7) ∷ []
+
+abbrev outside_host : ℕ → ℕ → Header
+outside_host src dst = record { dst = dst; src = src; proto = 6; dport = 80; sport = 40000; flags = 2 }
+
+both_from_outside : from_outside both_kinds (outside_host (address 198 51 100 7) (address 203 0 113 5)) ≡ outside_host (address 10 8 0 7) (address 10 0 0 5)
+both_from_outside = refl
+
+both_from_inside : from_inside both_kinds (outside_host (address 10 0 0 5) (address 10 8 0 7)) ≡ outside_host (address 203 0 113 5) (address 198 51 100 7)
+both_from_inside = refl
+
+-- three fields at once
+port_and_outer : from_outside (record (static_rule (address 10 0 0 6) (address 203 0 113 5)) { kind = Tcp; local_port = 8080; global_port = 80 } ∷ outer_rule (address 198 51 100 7) (address 10 8 0 7) ∷ []) (outside_host (address 198 51 100 7) (address 203 0 113 5)) ≡ record { dst = address 10 0 0 6; src = address 10 8 0 7; proto = 6; dport = 8080; sport = 40000; flags = 2 }
+port_and_outer = refl
+
+outer_rule_from_its_own_side_alone : from_outside both_kinds (outside_host (address 10 8 0 7) (address 198 51 100 7)) ≡ outside_host (address 10 8 0 7) (address 198 51 100 7)
+outer_rule_from_its_own_side_alone = refl
+
+-- R1 has Ethernet0 10.0.0.1/24 inside, Ethernet1 10.0.12.1/30 outside and 10.8.0.7 by 10.0.12.2: the lookup is for 10.8.0.7, and
+-- the packet leaves to 198.51.100.7
+abbrev to_outside_host : List NatRule → Config
+to_outside_host nat = record {
+  hostname = codes "R1";
+  interfaces = interface ethernet0 (slash24 (address 10 0 0 1)) Inside ∷ interface ethernet1 (slash (address 10 0 12 1)) Outside ∷ [];
+  routes = by_next (host_prefix (address 10 8 0 7)) (address 10 0 12 2) 1 ∷ [];
+  lists = [];
+  nat = nat;
+}
+
+destination_after_the_lookup : label (alone (to_outside_host (outer_rule (address 198 51 100 7) (address 10 8 0 7) ∷ []))) 255 (place 3 0) (to (address 10 8 0 7)) ≡ end.Exit (place 3 1) None (Some (address 198 51 100 7)) None None ∷ []
+unfolding label
+destination_after_the_lookup = refl
+
+-- the global address has no route, and isn't looked for
+destination_as_it_comes : label (alone (to_outside_host (outer_rule (address 198 51 100 7) (address 10 8 0 7) ∷ []))) 255 (place 3 0) (to (address 198 51 100 7)) ≡ end.Dropped ∷ []
+unfolding label
+destination_as_it_comes = refl
 
 -- ---- two default routes at each other
 

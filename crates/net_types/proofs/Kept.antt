@@ -10,7 +10,7 @@ use Rattle.net_types.specs.declared.network.Move.TheVariants.{Drop, Local, Lost,
 use Rattle.net_types.specs.declared.network.Place.{Place}
 use Rattle.net_types.specs.declared.network.Segment.{Segment}
 use Rattle.net_types.specs.declared.network.State.{State}
-use Rattle.net_types.specs.Translation.{with_dst, with_src, from_outside, from_inside, port_fits_dst, plain_fits_dst, port_fits_src, plain_fits_src}
+use Rattle.net_types.specs.Translation.{with_dst, with_src, with_outer_dst, with_outer_src, from_outside, from_inside, port_fits_dst, plain_fits_dst, port_fits_src, plain_fits_src, outer_fits_dst, outer_fits_src}
 use Rattle.net_types.specs.Routes.{hops, rib_of}
 use Rattle.net_types.specs.World.{World, Seat, seat_at, seat_named, segment_of, is_other, answers, is_silent}
 use Rattle.net_types.specs.Moves.{moves_at, moves_in, local_or_forward, owner, is_dropped, is_inside, is_outside, lets_in, passes_list, coming_in, going_out, move_by, leave_if_any, send, send_p2p, send_lan}
@@ -46,6 +46,14 @@ by_src h (Some r) q = record { proto = refl; flags = refl }
 by_src h None (Some r) = record { proto = refl; flags = refl }
 by_src h None None = kept h
 
+by_outer_src : (g h : Header) (o : Option NatRule) → Keeps g h → Keeps g (with_outer_src h o)
+by_outer_src g h (Some r) k = record { proto = k.proto; flags = k.flags }
+by_outer_src g h None k = k
+
+by_outer_dst : (g h : Header) (o : Option NatRule) → Keeps g h → Keeps g (with_outer_dst h o)
+by_outer_dst g h (Some r) k = record { proto = k.proto; flags = k.flags }
+by_outer_dst g h None k = k
+
 either_kept : (g : Header) (b : Bool) (h k : Header) → Keeps g h → Keeps g k → Keeps g (cond b h k)
 either_kept g true h k e f = e
 either_kept g false h k e f = f
@@ -53,12 +61,14 @@ either_kept g false h k e f = f
 in_kept : (seat : Seat) (h : Header) → Keeps h (coming_in seat h)
 in_kept seat h =
     let rules = seat.device.config.nat in
-    either_kept h (is_outside seat.interface.side) (from_outside rules h) h (by_dst h (find (port_fits_dst h) rules) (find (plain_fits_dst h) rules)) (kept h)
+    let to = by_dst h (find (port_fits_dst h) rules) (find (plain_fits_dst h) rules) in
+    either_kept h (is_outside seat.interface.side) (from_outside rules h) h (by_outer_src h _ (find (outer_fits_src h) rules) to) (kept h)
 
 out_kept : (seat out : Seat) (h : Header) → Keeps h (going_out seat out h)
 out_kept seat out h =
     let rules = seat.device.config.nat in
-    by_side (is_inside seat.interface.side) (is_outside out.interface.side) (from_inside rules h) (by_src h (find (port_fits_src h) rules) (find (plain_fits_src h) rules))
+    let from = by_src h (find (port_fits_src h) rules) (find (plain_fits_src h) rules) in
+    by_side (is_inside seat.interface.side) (is_outside out.interface.side) (from_inside rules h) (by_outer_dst h _ (find (outer_fits_dst h) rules) from)
   where
     by_side : (a b : Bool) (k : Header) → Keeps h k → Keeps h (cond (a && b) k h)
     by_side true true k e = e

@@ -47,7 +47,8 @@ is_outside Outside = true
 abbrev pub lets_in : Seat → Header → Bool
 lets_in seat h = is_enabled seat.interface && passes_list seat.device.config seat.interface.input h
 
--- at an outside interface the destination is translated, after the input list (IOS: NAT order of operation)
+-- at an outside interface the packet is translated from outside, after the input list and before the lookup (IOS: NAT order
+-- of operation)
 abbrev pub coming_in : Seat → Header → Header
 coming_in seat h = if is_outside seat.interface.side then from_outside seat.device.config.nat h else h
 
@@ -98,12 +99,14 @@ send w e a h (Some s) =
 
 -- ---- leaving
 
--- from an inside to an outside interface the source is translated, after the lookup (IOS: NAT order of operation)
+-- from an inside to an outside interface the packet is translated from inside, after the lookup (IOS: NAT order of
+-- operation)
 abbrev pub going_out : Seat → Seat → Header → Header
 going_out seat out h =
     if is_inside seat.interface.side && is_outside out.interface.side then from_inside seat.device.config.nat h else h
 
--- the output list sees the translated packet, and what it denies is lost after the TTL was looked at
+-- the output list sees the translated packet, and what it denies is lost after the TTL was looked at. The next address a is
+-- the lookup's, also where the destination was translated
 abbrev pub leave_with : World → Seat → Header → ℕ → Seat → Move
 leave_with w seat h a out =
     if passes_list seat.device.config out.interface.output h then send w out.place a h (segment_of w out.place) else Lost

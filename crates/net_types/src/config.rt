@@ -155,22 +155,24 @@ pub enum FlagTest {
 pub struct NatRule {
     pub kind: NatKind,
     pub local: u32,
-    /// The local port; 0 in a plain rule.
+    /// The local port; 0 in a plain and in an outer rule.
     pub local_port: u16,
     pub global: u32,
-    /// The global port; 0 in a plain rule.
+    /// The global port; 0 in a plain and in an outer rule.
     pub global_port: u16,
 }
 
 /// What a rule of address translation translates.
 #[derive(Clone, Copy, Debug, PartialEq, Eq)]
 pub enum NatKind {
-    /// An address, for every protocol and port.
+    /// The address of a host inside, for every protocol and port.
     Plain,
-    /// An address and a TCP port.
+    /// The address and a TCP port of a host inside.
     Tcp,
-    /// An address and a UDP port.
+    /// The address and a UDP port of a host inside.
     Udp,
+    /// The address of a host outside, for every protocol and port.
+    Outer,
 }
 
 /// A configuration with the file that it was read from.

@@ -3,23 +3,21 @@ use Rattle.std.proofs.Common.{◌∙◌, sym, get_or}
 use Rattle.std.proofs.lemmas.List.{get_or_default}
 use Rattle.net_types.specs.declared.config.NatRule.{NatRule}
 use Rattle.net_types.specs.declared.config.NatKind.TheVariants.{Plain}
-use Rattle.nat_static.proofs.RuleLemmas.{rules_skip, rules_more, kinds_differ, kinds_same}
+use Rattle.nat_static.proofs.RuleLemmas.{rules_skip, rules_more}
 
 abbrev of_nothing : NatRule
 of_nothing = record { kind = Plain; local = 0; local_port = 0; global = 0; global_port = 0 }
 
-pub loop-i-preserved-then-is_plain-plain : goal.loop-i-preserved-then-is_plain-plain
-loop-i-preserved-then-is_plain-plain c =
+pub loop-i-preserved-then-not-is_in_group : goal.loop-i-preserved-then-not-is_in_group
+loop-i-preserved-then-not-is_in_group c =
     let rules = c.args.rules.now in
     let r = get_or rules c.loop-i.i of_nothing in
-    let k = kinds_differ c.is_plain.result c.args.plain c.if-is_plain-plain.true in
     let e = get_or_default rules c.loop-i.i of_nothing r c.loop-i-test.true in
-    rules_skip c.args.plain c.args.direction rules c.args.pieces.now.items c.loop-i.pieces.items c.loop-i.i r c.loop-i-test.true e (λ q. k (c.is_plain.ensures ∙ q)) c.loop-i.invariant
+    rules_skip c.args.group c.args.direction rules c.args.pieces.now.items c.loop-i.pieces.items c.loop-i.i r c.loop-i-test.true e (sym c.is_in_group.ensures ∙ c.if-not-is_in_group.true) c.loop-i.invariant
 
 pub loop-i-preserved : goal.loop-i-preserved
 loop-i-preserved c =
     let rules = c.args.rules.now in
     let r = get_or rules c.loop-i.i of_nothing in
-    let k = kinds_same c.is_plain.result c.args.plain c.if-is_plain-plain.false in
     let e = get_or_default rules c.loop-i.i of_nothing r c.loop-i-test.true in
-    rw c.in_ok-push.ensures.items (rules_more c.args.plain c.args.direction rules c.args.pieces.now.items c.loop-i.pieces.items c.loop-i.i r (record { cube = c.rule_cube-cube.result; value = c.in_ok-value.value }) c.loop-i-test.true e (sym c.is_plain.ensures ∙ k) c.in_ok-value.ensures c.rule_cube-cube.ensures c.loop-i.invariant)
+    rw c.in_ok-push.ensures.items (rules_more c.args.group c.args.direction rules c.args.pieces.now.items c.loop-i.pieces.items c.loop-i.i r (record { cube = c.rule_cube-cube.result; value = c.in_ok-value.value }) c.loop-i-test.true e (sym c.is_in_group.ensures ∙ c.if-not-is_in_group.false) c.in_ok-value.ensures c.rule_cube-cube.ensures c.loop-i.invariant)

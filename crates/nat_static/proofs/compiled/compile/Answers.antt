@@ -1,22 +1,35 @@
 use Rattle.nat_static.proofs.compiled.compile.Goals as goal
-use Rattle.nat_static.proofs.StampedLemmas.{IsClosed, closed, stamped_apart, closed_holder, closed_exact, closed_fixed}
+use Rattle.nat_static.specs.Rules.{applying, outer_applying}
+use Rattle.nat_static.proofs.StampedLemmas.{tells, have, stamps_hold, stamps_exact, stamps_fixed}
 
-is_closed : (c : goal.After-drop-pieces-2) → IsClosed c.args.direction c.args.rules.now c.deref.result.now
-is_closed c =
-    rw (c.deref.ensures.value, c.in_ok-push.ensures.items) (closed c.args.direction c.args.rules.now c.in_ok-pieces.pieces.items (record { cube = c.all.result; value = c.in_ok-number_of.field-0 }) c.all.ensures c.in_ok-number_of.ensures c.in_ok-pieces.ensures)
+pub stamps_of-requires-clause-apart : goal.stamps_of-requires-clause-apart
+stamps_of-requires-clause-apart c = rw c.deref-2.ensures.value c.in_ok-parts.ensures.apart
+
+pub stamps_of-requires-clause-parts : goal.stamps_of-requires-clause-parts
+stamps_of-requires-clause-parts c =
+    let rules = c.args.rules.now in
+    let rule = applying c.args.direction rules in
+    let told = tells rule rules c.in_ok-inner_rules.inner_rules.items c.deref.result.now c.in_ok-inner_rules.ensures (rw c.deref.ensures.value c.in_ok-pieces.ensures) in
+    rw c.deref-2.ensures.value (have rule rules c.deref.result.now c.in_ok-parts.parts.items told c.in_ok-parts.ensures.each)
+
+pub stamps_of-requires-clause-outer : goal.stamps_of-requires-clause-outer
+stamps_of-requires-clause-outer c =
+    let rules = c.args.rules.now in
+    tells (outer_applying c.args.direction rules) rules c.in_ok-outer_rules.outer_rules.items c.deref-3.result.now c.in_ok-outer_rules.ensures (rw c.deref-3.ensures.value c.in_ok-outer.ensures)
 
 pub returns-clause-apart : goal.returns-clause-apart
-returns-clause-apart c =
-    rw (c.in_ok-stamps.ensures, c.deref-2.ensures.value) (stamped_apart c.args.direction c.args.rules.now c.in_ok-parts.parts.items c.in_ok-parts.ensures.apart)
+returns-clause-apart c = c.in_ok-stamps.ensures.apart
 
 pub returns-clause-covers : goal.returns-clause-covers
 returns-clause-covers c =
-    rw (c.in_ok-stamps.ensures, c.deref-2.ensures.value) (closed_holder c.args.direction c.args.rules.now c.deref.result.now c.in_ok-parts.parts.items (is_closed c) c.in_ok-parts.ensures.holder)
+    let d = c.args.direction in
+    let rules = c.args.rules.now in
+    let rule = applying d rules in
+    let told = tells rule rules c.in_ok-inner_rules.inner_rules.items c.deref.result.now c.in_ok-inner_rules.ensures (rw c.deref.ensures.value c.in_ok-pieces.ensures) in
+    stamps_hold d rules rule c.deref.result.now c.deref-2.result.now c.in_ok-stamps.stamps.items told (rw c.deref-2.ensures.value c.in_ok-parts.ensures.holder) c.in_ok-stamps.ensures
 
 pub returns-clause-exact : goal.returns-clause-exact
-returns-clause-exact c =
-    rw (c.in_ok-stamps.ensures, c.deref-2.ensures.value) (closed_exact c.args.direction c.args.rules.now c.deref.result.now c.in_ok-parts.parts.items (is_closed c) c.in_ok-parts.ensures.each)
+returns-clause-exact c = stamps_exact c.args.direction c.args.rules.now c.deref-2.result.now c.in_ok-stamps.stamps.items c.in_ok-stamps.ensures
 
 pub returns-clause-fixed : goal.returns-clause-fixed
-returns-clause-fixed c =
-    rw (c.in_ok-stamps.ensures, c.deref-2.ensures.value) (closed_fixed c.args.direction c.args.rules.now c.deref.result.now c.in_ok-parts.parts.items (is_closed c) c.in_ok-parts.ensures.each)
+returns-clause-fixed c = stamps_fixed c.args.direction c.args.rules.now c.deref-2.result.now c.in_ok-stamps.stamps.items c.in_ok-stamps.ensures

@@ -6,9 +6,9 @@ use Rattle.nat_static.specs.Pieces.{ReplacesFixed}
 use Rattle.nat_static.proofs.FixedLemmas.{right_if, fixed_if}
 
 pub returns-clause-applies : goal.returns-clause-applies
-returns-clause-applies c h e =
-    ap (λ s. applied s h) c.stamp_if.ensures ∙ right_if FromOutside c.args.rules.now h c.args.rule e
+returns-clause-applies c h e f =
+    ap (λ s. applied s h) c.stamps_if.ensures ∙ right_if FromOutside c.args.rules.now h c.args.rule c.args.outer e f
 
 pub returns-clause-fixed : goal.returns-clause-fixed
-returns-clause-fixed c cube f =
-    subst (λ s. ReplacesFixed s cube) (sym c.stamp_if.ensures) (fixed_if FromOutside c.args.rules.now cube c.args.rule f)
+returns-clause-fixed c cube f g =
+    subst (λ s. ReplacesFixed s cube) (sym c.stamps_if.ensures) (fixed_if FromOutside c.args.rules.now cube c.args.rule c.args.outer f g)

@@ -1,6 +1,6 @@
 use Rattle.nat_static.proofs.compiled.stamps_of.Given as goal
-use Rattle.std.proofs.Common.{◌≡◌, take, map}
-use Rattle.nat_static.proofs.StampedLemmas.{stamped}
+use Rattle.std.proofs.Common.{take}
+use Rattle.nat_static.specs.Pieces.{AreStamps}
 
-abbrev pub invariant-loop-p : goal.invariant-loop-p
-invariant-loop-p l = l.stamps.items ≡ map (stamped l.direction l.rules) (take l.p-index l.parts)
+abbrev pub invariant-loop-part : goal.invariant-loop-part
+invariant-loop-part l = AreStamps l.direction l.rules (take l.part-index l.parts) l.stamps.items

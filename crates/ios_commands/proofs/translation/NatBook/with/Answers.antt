@@ -10,12 +10,19 @@ tied : (v b : NatSide) → eq-value.it v b ≡ same_side v b
 tied (side.Plain a) (side.Plain b) = refl
 tied (side.Tcp a m) (side.Tcp b n) = refl
 tied (side.Udp a m) (side.Udp b n) = refl
+tied (side.Outer a) (side.Outer b) = refl
 tied (side.Plain a) (side.Tcp b n) = refl
 tied (side.Plain a) (side.Udp b n) = refl
 tied (side.Tcp a m) (side.Plain b) = refl
 tied (side.Tcp a m) (side.Udp b n) = refl
 tied (side.Udp a m) (side.Plain b) = refl
 tied (side.Udp a m) (side.Tcp b n) = refl
+tied (side.Plain a) (side.Outer b) = refl
+tied (side.Tcp a m) (side.Outer b) = refl
+tied (side.Udp a m) (side.Outer b) = refl
+tied (side.Outer a) (side.Plain b) = refl
+tied (side.Outer a) (side.Tcp b n) = refl
+tied (side.Outer a) (side.Udp b n) = refl
 
 pub invariant_of-result : goal.invariant_of-result
 invariant_of-result c = (
