@@ -2,3 +2,4 @@ pub mod Hosts
 pub mod Steps
 pub mod Listing
 pub mod OneAnswer
+pub mod Collected

@@ -18,7 +18,7 @@ use Rattle.topo_links.proofs.NameOrder.{name_total, name_exact}
 use Rattle.net_load.specs.Limits.{files_limit, folder_limit}
 use Rattle.net_load.specs.declared.folder.LoadFail.{LoadFail}
 use Rattle.net_load.specs.declared.folder.LoadFail.TheVariants as fail
-use Rattle.net_load.specs.Folder.{AreConfigNames, IsRead, AreLoaded, file_at, size_at, total, Unless, BytesFail, ContentFails, FailsAt, NoFolder, TooMany, Stages, Loads}
+use Rattle.net_load.specs.Folder.{AreConfigNames, IsRead, AreLoaded, file_at, size_at, total, Unless, UnlessMemory, UnlessFault, BytesFail, ContentFails, FailsAt, NoFolder, TooMany, Stages, Loads}
 
 -- the names of a folder's configurations are one list
 names_once : (t : Told) (folder : Word) (ns ms : List Word) → AreConfigNames t folder ns → AreConfigNames t folder ms → ns ≡ ms
@@ -94,6 +94,16 @@ no_content_fail : (folder path : Word) (sum : ℕ) (ls : List Loaded) (y : Loade
 no_content_fail folder path sum ls y None e r small fits free h = absurd r
 no_content_fail folder path sum ls y (Some bytes) e r small fits free h = no_bytes_fail folder path sum ls y bytes e r small fits free h
 
+but_for_fault : (e : LoadFail) (path : Word) {A : Type 0} → (A → Unless e ⊥) → UnlessFault e path A → Unless e ⊥
+but_for_fault (fail.Fault p) path f h = tt
+but_for_fault fail.NoMemory path f h = tt
+but_for_fault (fail.Absent p) path f h = f h
+but_for_fault (fail.TooLong p) path f h = f h
+but_for_fault (fail.TooManyFiles p) path f h = f h
+but_for_fault (fail.FolderTooLong p) path f h = f h
+but_for_fault (fail.Refused p r) path f h = f h
+but_for_fault (fail.HostnameTaken p q) path f h = f h
+
 no_fails_at : (t : Told) (folder : Word) (names : List Word) (xs : List Loaded) (e : LoadFail) → AreLoaded t folder names xs → FailsAt t folder names e → Unless e ⊥
 no_fails_at t folder names xs e done f =
     let parts = zip_split (IsRead t folder) (file_once t folder) f.before f.name f.after f.loaded xs f.done.each (subst (λ (ns : List Word). AllZip (IsRead t folder) ns xs) f.split done.each) in
@@ -101,7 +111,7 @@ no_fails_at t folder names xs e done f =
     let distinct : IsDistinct bytes_eq (map host_of (f.loaded ++ y ∷ parts.1)) = subst (λ (ls : List Loaded). IsDistinct bytes_eq (map host_of ls)) parts.2 done.hosts in
     let sums : total t folder names ≡ total t folder f.before + (size_at t folder f.name + total t folder f.after) =
     ap (total t folder) f.split ∙ sum_by-append (size_at t folder) f.before (f.name ∷ f.after) ∙ ap (λ n. total t folder f.before + n) (sum_by-cons (size_at t folder) f.name f.after) in
-    no_content_fail folder (path_in folder f.name) (total t folder f.before) f.loaded y (file_at t folder f.name) e parts.3.read parts.3.size (omega (arith, done.size, sums)) (none_taken f.loaded y parts.1 distinct) f.cause
+    but_for_fault e (path_in folder f.name) (no_content_fail folder (path_in folder f.name) (total t folder f.before) f.loaded y (file_at t folder f.name) e parts.3.read parts.3.size (omega (arith, done.size, sums)) (none_taken f.loaded y parts.1 distinct)) f.cause
 
 no_folder : (t : Told) (folder : Word) (e : LoadFail) → has_folder t folder ≡ true → NoFolder t folder e → Unless e ⊥
 no_folder t folder (fail.Fault p) is h = tt
@@ -123,7 +133,7 @@ not_too_many folder names (fail.FolderTooLong p) few h = h
 not_too_many folder names (fail.Refused p r) few h = h
 not_too_many folder names (fail.HostnameTaken p q) few h = h
 
-unless_once : {A : Type 0} (e : LoadFail) → Unless e A → (A → Unless e ⊥) → Unless e ⊥
+unless_once : {A : Type 0} (e : LoadFail) → UnlessMemory e A → (A → Unless e ⊥) → Unless e ⊥
 unless_once (fail.Fault p) h f = tt
 unless_once fail.NoMemory h f = tt
 unless_once (fail.Absent p) h f = f h

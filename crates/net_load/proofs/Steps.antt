@@ -16,7 +16,7 @@ use Rattle.net_load.specs.declared.folder.LoadFail.{LoadFail}
 use Rattle.net_load.specs.declared.folder.LoadFail.TheVariants as fail
 use Rattle.net_load.specs.Limits.{folder_limit}
 use Rattle.net_load.specs.declared.loader.Loader.{Loader}
-use Rattle.net_load.specs.Folder.{IsRead, AreLoaded, total, size_at, BytesFail, FileFails, FailsAt, Unless, FaultRose, HasCause}
+use Rattle.net_load.specs.Folder.{IsRead, AreLoaded, total, size_at, BytesFail, FileFails, FailsAt, UnlessMemory, FaultRose, HasCause}
 use Rattle.net_load.specs.Loader.{IsLoader, AddsFile, Accepts}
 
 -- bytes that aren't taken are no fault
@@ -105,8 +105,8 @@ next_size (Some t) p folder names name old new e size step =
     let a : (l : Loaded) × AddsFile t folder name old new l = subst (λ (q : Option Told). IfSome q (λ t. (l : Loaded) × AddsFile t folder name old new l)) e step in
     a.1.adds.total ∙ ap (λ n. n + size_at t folder name) size ∙ sym (total_more t folder names name)
 
-pub unless_map : (e : LoadFail) {A B : Type 0} → (A → B) → Unless e A → Unless e B
-unless_map (fail.Fault p) f h = tt
+pub unless_map : (e : LoadFail) {A B : Type 0} → (A → B) → UnlessMemory e A → UnlessMemory e B
+unless_map (fail.Fault p) f h = f h
 unless_map fail.NoMemory f h = tt
 unless_map (fail.Absent p) f h = f h
 unless_map (fail.TooLong p) f h = f h
@@ -119,11 +119,11 @@ unless_map (fail.HostnameTaken p q) f h = f h
 pub stops : (o p : Option Told) (folder : Word) (all before : List Word) (name : Word) (after : List Word) (old : Loader) (e : LoadFail) → p ≡ o
     → IfSome o (λ t. AreLoaded t folder before old.loaded.items) → IfSome o (λ t. old.total ≡ total t folder before)
     → all ≡ before ++ name ∷ after
-    → IfSome p (λ t. Unless e (FileFails t folder old.total old.loaded.items name e))
-    → IfSome o (λ t. Unless e (FailsAt t folder all e))
+    → IfSome p (λ t. UnlessMemory e (FileFails t folder old.total old.loaded.items name e))
+    → IfSome o (λ t. UnlessMemory e (FailsAt t folder all e))
 stops None p folder all before name after old e same done size split step = tt
 stops (Some t) p folder all before name after old e same done size split step =
-    let fails : Unless e (FileFails t folder old.total old.loaded.items name e) = subst (λ (q : Option Told). IfSome q (λ t. Unless e (FileFails t folder old.total old.loaded.items name e))) same step in
+    let fails : UnlessMemory e (FileFails t folder old.total old.loaded.items name e) = subst (λ (q : Option Told). IfSome q (λ t. UnlessMemory e (FileFails t folder old.total old.loaded.items name e))) same step in
     unless_map e (λ (h : FileFails t folder old.total old.loaded.items name e). record {
       before = before;
       name = name;

@@ -58,6 +58,16 @@ Unless (fail.Fault path) claim = Unit {0}
 Unless fail.NoMemory claim = Unit {0}
 Unless _ claim = claim
 
+-- want of memory may come at any time
+abbrev pub UnlessMemory : LoadFail → Type 0 → Type 0
+UnlessMemory fail.NoMemory claim = Unit {0}
+UnlessMemory _ claim = claim
+
+-- a fault may come in place of another cause, and names the path of the call that failed
+abbrev pub UnlessFault : LoadFail → Word → Type 0 → Type 0
+UnlessFault (fail.Fault p) path claim = p ≡ path
+UnlessFault _ path claim = claim
+
 -- the bytes fit into the limits, behind files of so many bytes
 abbrev pub Fits : ℕ → List ℕ → Type 0
 Fits sum bytes = (length bytes ≤ file_limit) × (sum + length bytes ≤ folder_limit)
@@ -81,7 +91,8 @@ ContentFails folder path sum loaded (Some bytes) e = BytesFail folder path sum l
 
 -- why a file of this name isn't loaded
 abbrev pub FileFails : Told → Word → ℕ → List Loaded → Word → LoadFail → Type 0
-FileFails t folder sum loaded name e = ContentFails folder (path_in folder name) sum loaded (file_at t folder name) e
+FileFails t folder sum loaded name e =
+    UnlessFault e (path_in folder name) (ContentFails folder (path_in folder name) sum loaded (file_at t folder name) e)
 
 -- the files before one are loaded, and that one isn't
 pub record FailsAt (t : Told) (folder : Word) (names : List Word) (e : LoadFail) : Type 0 where
@@ -96,17 +107,18 @@ pub record FailsAt (t : Told) (folder : Word) (names : List Word) (e : LoadFail)
 -- the files of these names are loaded, or the first cause why not
 abbrev pub LoadsNames : {T : Type 0} → (T → List Loaded) → Told → Word → List Word → Result T LoadFail → Type 0
 LoadsNames view t folder names (Ok x) = AreLoaded t folder names (view x)
-LoadsNames view t folder names (Err e) = Unless e (FailsAt t folder names e)
+LoadsNames view t folder names (Err e) = UnlessMemory e (FailsAt t folder names e)
 
--- the names of the folder's configurations, or why there are none
+-- why the names of the folder's configurations can't be had
 abbrev pub NoFolder : Told → Word → LoadFail → Type 0
 NoFolder t folder (fail.Absent p) = (p ≡ folder) × (has_folder t folder ≡ false)
+NoFolder t folder (fail.Fault p) = p ≡ folder
 NoFolder t folder _ = ⊥
 
 -- a listing, or why there is none
 abbrev pub Lists : {T : Type 0} → (T → List Word) → Told → Word → Result T LoadFail → Type 0
 Lists view t folder (Ok x) = (has_folder t folder ≡ true) × AreConfigNames t folder (view x)
-Lists view t folder (Err e) = Unless e (NoFolder t folder e)
+Lists view t folder (Err e) = UnlessMemory e (NoFolder t folder e)
 
 -- the listing has too many names of configurations
 abbrev pub TooMany : Word → List Word → LoadFail → Type 0
@@ -123,7 +135,7 @@ abbrev pub Loads : {T : Type 0} → (T → List Loaded) → Told → Word → Re
 Loads view t folder (Ok x) =
     (has_folder t folder ≡ true) × ((names : List Word) × AreConfigNames t folder names × (length names ≤ files_limit) × AreLoaded t folder names (view x))
 Loads view t folder (Err e) =
-    Unless e (NoFolder t folder e ⊎ ((has_folder t folder ≡ true) × ((names : List Word) × AreConfigNames t folder names × Stages t folder names e)))
+    UnlessMemory e (NoFolder t folder e ⊎ ((has_folder t folder ≡ true) × ((names : List Word) × AreConfigNames t folder names × Stages t folder names e)))
 
 -- the count of faults never falls, and has risen where the answer is a fault
 abbrev pub FaultRose : LoadFail → ℕ → ℕ → Type 0

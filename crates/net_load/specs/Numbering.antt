@@ -1,6 +1,8 @@
 -- Networks and links with numbers in place of names: a name's number is its place among all names in order.
-use Rattle.std.specs.Prelude.{ℕ, true, false, List, [], ◌∷◌, ◌++◌, map, flat_map, position, unwrap_or, length, ◌+◌}
+use Rattle.std.specs.Prelude.{ℕ, true, false, not, List, [], ◌∷◌, ◌++◌, map, filter, flat_map, position, unwrap_or, length, ◌+◌}
+use Rattle.std.specs.List.{list_any}
 use Rattle.std.specs.Str.{bytes_eq}
+use Rattle.net_types.specs.World.{same_place}
 use Rattle.net_types.specs.declared.config.Config.{Config}
 use Rattle.net_types.specs.declared.config.Loaded.{Loaded}
 use Rattle.net_types.specs.declared.network.Place.{Place}
@@ -15,6 +17,7 @@ use Rattle.topo_links.specs.Ends.{Word, End}
 use Rattle.topo_links.specs.Names.{sorted_names}
 use Rattle.topo_links.specs.Table.{ingress_part, table_names}
 use Rattle.net_load.specs.declared.numbering.Numbered.{Numbered}
+use Rattle.net_load.specs.declared.numbering.NumberedBoth.{NumberedBoth}
 
 -- the names of a network: of each device its hostname and its interface names
 abbrev pub config_names : Config → List Word
@@ -87,3 +90,30 @@ numbered_with names old new t = record {
 
 abbrev pub numbered_of : List Loaded → List Loaded → LinkTable → List Word → Numbered
 numbered_of old new t extra = numbered_with (names_of old new t extra) old new t
+
+-- ---- where each network has a link table of its own
+
+-- the names of the new network's table come among the further ones
+abbrev pub extra_names : LinkTable → List Word → List Word
+extra_names new_table extra = table_names new_table ++ extra
+
+-- the places that aren't named
+abbrev pub unnamed : List Place → List Place → List Place
+unnamed names places = filter (λ p. not (list_any (same_place p) names)) places
+
+-- the ingresses of the old links in their order, then those that the new links alone name, in their order
+abbrev pub all_ingresses : List Place → List Place → List Place
+all_ingresses old new = old ++ unnamed old new
+
+abbrev pub numbered_both_with : List Word → List Loaded → List Loaded → LinkTable → LinkTable → NumberedBoth
+numbered_both_with names old new t u = record {
+  names = record { texts = names };
+  old = network_of names old;
+  new = network_of names new;
+  old_links = links_of names t;
+  new_links = links_of names u;
+  ingress = all_ingresses (flat_map (ingress_of names) t.lines) (flat_map (ingress_of names) u.lines);
+}
+
+abbrev pub numbered_both : List Loaded → List Loaded → LinkTable → LinkTable → List Word → NumberedBoth
+numbered_both old new t u extra = numbered_both_with (names_of old new t (extra_names u extra)) old new t u

@@ -132,7 +132,8 @@ fn list_configs<F: Files>(
 /// Loads the configurations of a folder: the files whose names end in `.cfg`, in the order of their names by bytes.
 ///
 /// They are read and checked one after the other, and the first cause decides. Each answer is exact, but that a fault or
-/// want of memory may come in its place; `Fault` comes only where the count of faults rose.
+/// want of memory may come in its place. `Fault` comes only where the count of faults rose, and its path is that of the
+/// folder, or of a file before which all are loaded.
 pub fn load_folder<F: Files>(
     alloc: Global,
     files: &mut F,

@@ -7,4 +7,4 @@ mod loader;
 mod numbering;
 
 pub use folder::{LoadFail, load_folder};
-pub use numbering::{Numbered, number_all};
+pub use numbering::{Numbered, NumberedBoth, number_all, number_both};

@@ -1,9 +1,13 @@
 //! Numbers in place of names.
 ghost use Rattle.std.specs.Prelude.{◌≡◌, ◌<◌, ◌^◌, ◌∷◌, ◌++◌, ◌≤◌, [], IfOk, OnOk, length, map, flat_map};
+ghost use Rattle.std.specs.List.{list_any};
+ghost use Rattle.net_types.specs.declared.network.Place.{Place};
+ghost use Rattle.net_types.specs.World.{same_place};
 ghost use Rattle.topo_links.specs.Table.{end_names, table_names};
 ghost use Rattle.topo_links.specs.Names.{add_name, add_names, sorted_names};
-ghost use Rattle.net_load.specs.Numbering.{config_names, folder_names, count_names, names_of, number_of, device_of, network_of, place_of, places_of, segments_of, links_of, ingress_of, numbered_of};
+ghost use Rattle.net_load.specs.Numbering.{config_names, folder_names, count_names, names_of, number_of, device_of, network_of, place_of, places_of, segments_of, links_of, ingress_of, numbered_of, extra_names, unnamed, all_ingresses, numbered_both};
 
+use indexmap::IndexSet;
 use net_types::{
     Config, Interface, Links, List, Loaded, Names, NetDevice, Network, NoMemory, Place, Segment,
     Text,
@@ -18,6 +22,18 @@ pub struct Numbered {
     pub old: Network,
     pub new: Network,
     pub links: Links,
+}
+
+/// Two networks with links of their own, over one list of names.
+#[derive(Drop)]
+pub struct NumberedBoth {
+    pub names: Names,
+    pub old: Network,
+    pub new: Network,
+    pub old_links: Links,
+    pub new_links: Links,
+    /// The ingresses of the old network's links in their order, then those that the new one's links alone name.
+    pub ingress: List<Place>,
 }
 
 /// Gives each name its number, which is its place among all names in the order of their bytes.
@@ -44,6 +60,114 @@ pub fn number_all(
             texts: names.copies(alloc)?,
         },
     })
+}
+
+/// Gives each name its number, as `number_all` does, where each network has a link table of its own.
+///
+/// The names are those of both tables. There must be fewer than 2^32 names in all.
+pub fn number_both(
+    alloc: Global,
+    old: Vec<Loaded>,
+    new: Vec<Loaded>,
+    table: &LinkTable,
+    new_table: &LinkTable,
+    extra: &[Text],
+) -> Result<NumberedBoth, NoMemory>
+    requires { count_names old.items new.items table.now (extra_names new_table.now extra.now) < 2 ^ 32 }
+    ensures { IfOk result (λ numbered. numbered ≡ numbered_both old.items new.items table.now new_table.now extra.now) }
+{
+    let names = collect_both(alloc, &old, &new, table, new_table, extra)?;
+    let old_links = number_links(alloc, &names, table)?;
+    let new_links = number_links(alloc, &names, new_table)?;
+    let ingress = all_ingresses(
+        alloc,
+        old_links.ingress.as_slice(),
+        new_links.ingress.as_slice(),
+    )?;
+    Ok(NumberedBoth {
+        old: number_network(alloc, &names, old)?,
+        new: number_network(alloc, &names, new)?,
+        old_links,
+        new_links,
+        ingress,
+        names: Names {
+            texts: names.copies(alloc)?,
+        },
+    })
+}
+
+/// All names of two tables in order.
+fn collect_both(
+    alloc: Global,
+    old: &[Loaded],
+    new: &[Loaded],
+    table: &LinkTable,
+    new_table: &LinkTable,
+    extra: &[Text],
+) -> Result<NameIndex, NoMemory>
+    ensures names { IfOk result (λ names. names ≡ names_of old.now new.now table.now (extra_names new_table.now extra.now)) }
+    ensures count { IfOk result (λ names. length names ≤ count_names old.now new.now table.now (extra_names new_table.now extra.now)) }
+{
+    let mut names = NameIndex::new(alloc);
+    add_folder(alloc, &mut names, old)?;
+    add_folder(alloc, &mut names, new)?;
+    add_table(alloc, &mut names, table)?;
+    add_extra(alloc, &mut names, new_table, extra)?;
+    names.sort()?;
+    Ok(names)
+}
+
+/// Adds the names of the new network's table, and further ones.
+fn add_extra(
+    alloc: Global,
+    names: &mut NameIndex,
+    new_table: &LinkTable,
+    extra: &[Text],
+) -> Result<(), NoMemory>
+    ensures { OnOk result (names.new ≡ add_names names.old (extra_names new_table.now extra.now)) }
+{
+    add_table(alloc, names, new_table)?;
+    add_texts(alloc, names, extra)?;
+    Ok(())
+}
+
+/// The ingresses of the old links, and behind them those of the new links that are not among them.
+fn all_ingresses(alloc: Global, old: &[Place], new: &[Place]) -> Result<List<Place>, NoMemory>
+    ensures { IfOk result (λ places. places ≡ all_ingresses old.now new.now) }
+{
+    let named = places_set(alloc, old)?;
+    let mut places = old.to_vec(alloc)?;
+    add_unnamed(&mut places, &named, old, new)?;
+    Ok(List::new(places))
+}
+
+/// The places, to be found by their hash.
+fn places_set(alloc: Global, places: &[Place]) -> Result<IndexSet<Place>, NoMemory>
+    ensures { IfOk result (λ named. (p : Place) → list_any (same_place p) named.keys ≡ list_any (same_place p) places.now) }
+{
+    let mut named = IndexSet::new(alloc);
+    for place in places {
+        named.insert(*place)?;
+    }
+    Ok(named)
+}
+
+/// Adds the places that are not named.
+fn add_unnamed(
+    found: &mut Vec<Place>,
+    named: &IndexSet<Place>,
+    names: &[Place],
+    places: &[Place],
+) -> Result<(), NoMemory>
+    requires { (p : Place) → list_any (same_place p) named.now.keys ≡ list_any (same_place p) names.now }
+    ensures { OnOk result (found.new.items ≡ found.old.items ++ unnamed names.now places.now) }
+{
+    for place in places {
+        if !named.contains(place) {
+            found.push(*place)?;
+        }
+    }
+    Ok(())
 }
 
 /// All names in order.

@@ -102,3 +102,10 @@ line_fault old new l = fault_by l.line (unknown_device old new l) (twice_fault l
 -- the first line in which something is wrong decides
 abbrev pub table_fault : List Loaded → List Loaded → List LinkLine → Option LinkFail
 table_fault old new ls = first (filter_map (line_fault old new) ls)
+
+-- the same where each network has a table of its own: an address that stands twice is judged in the table's own network
+unfoldable pub own_line_fault : List Loaded → List Loaded → LinkLine → Option LinkFail
+own_line_fault own other l = fault_by l.line (unknown_device own other l) (twice_at l.line (shared_address own l))
+
+abbrev pub own_table_fault : List Loaded → List Loaded → List LinkLine → Option LinkFail
+own_table_fault own other ls = first (filter_map (own_line_fault own other) ls)

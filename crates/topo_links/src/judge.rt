@@ -1,7 +1,7 @@
-//! The check of a link table against two networks.
+//! The check of a link table against two networks, or against its own one of two.
 ghost use Rattle.std.specs.Prelude.{◌≡◌, IfOk, map, find};
 ghost use Rattle.std.specs.Option.{option_copied};
-ghost use Rattle.topo_links.specs.Check.{is_unknown, dotted, twice_at, line_fault, table_fault};
+ghost use Rattle.topo_links.specs.Check.{is_unknown, dotted, twice_at, line_fault, table_fault, own_line_fault, own_table_fault};
 ghost use Rattle.topo_links.specs.NetIndex.{IsNet, Judges};
 
 use crate::ends::at_word;
@@ -112,4 +112,58 @@ fn check_lines(
         check_line(alloc, old, new, line)?;
     }
     Ok(())
+}
+
+/// Checks the table of one network, where the other one has a table of its own.
+///
+/// By line, and first in a line: `UnknownDevice` with its first device that is in neither network. `AddressTwice`
+/// where two IP-enabled ends of one segment have one address in the table's own network, with the least such address.
+/// An address that stands twice on one interface isn't counted.
+pub fn check_own(
+    alloc: Global,
+    table: &LinkTable,
+    own: &[Loaded],
+    other: &[Loaded],
+) -> Result<(), LinkFail>
+    ensures exact { Judges (own_table_fault own.now other.now table.now.lines) result }
+{
+    let own = NetIndex::of(alloc, own)?;
+    let other = NetIndex::of(alloc, other)?;
+    check_own_lines(alloc, &own, &other, table.lines.as_slice())
+}
+
+/// Checks the lines one after the other.
+fn check_own_lines(
+    alloc: Global,
+    own: &NetIndex,
+    other: &NetIndex,
+    lines: &[LinkLine],
+) -> Result<(), LinkFail>
+    requires own { IsNet own.now }
+    requires other { IsNet other.now }
+    ensures { Judges (own_table_fault own.now.devices.items.now other.now.devices.items.now lines.now) result }
+{
+    for line in lines {
+        check_own_line(alloc, own, other, line)?;
+    }
+    Ok(())
+}
+
+/// Whether a line is right in its own network.
+#[tactic(auto, unfolding(crate::specs::Check::own_line_fault))]
+fn check_own_line(
+    alloc: Global,
+    own: &NetIndex,
+    other: &NetIndex,
+    line: &LinkLine,
+) -> Result<(), LinkFail>
+    requires own { IsNet own.now }
+    requires other { IsNet other.now }
+    ensures { Judges (own_line_fault own.now.devices.items.now other.now.devices.items.now line.now) result }
+{
+    if let Some(device) = unknown_device(own, other, line.ends.as_slice()) {
+        return Err(at_word(alloc, LinkRefusal::UnknownDevice, line.line, device));
+    }
+    let shared = own.shared_address(alloc, line)?;
+    judge_shared(alloc, line.line, shared)
 }

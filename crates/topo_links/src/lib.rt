@@ -16,7 +16,7 @@ mod shared;
 mod table;
 mod taken;
 
-pub use judge::check;
+pub use judge::{check, check_own};
 pub use names::NameIndex;
 pub use reader::read_links;
 pub use table::{LinkFail, LinkKind, LinkLine, LinkRefusal, LinkTable};
