@@ -1,2 +1,13 @@
 pub mod Digits
 pub mod Prefixes
+pub mod Options
+pub mod Cuts
+pub mod Joined
+pub mod Numerals
+pub mod FieldLaws
+pub mod Steps
+pub mod NameNumbers
+pub mod LabelLaws
+pub mod NameTests
+pub mod Kept
+pub mod ReportLaws

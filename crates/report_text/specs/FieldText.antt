@@ -1,5 +1,5 @@
 -- How addresses, the fields of a cube, cubes and headers are written.
-use Rattle.std.specs.Prelude.{ℕ, zero, suc, ◌-◌, ◌/◌, ◌%◌, ◌^◌, ◌==◌, List, [], ◌++◌, Option, Some, None, codes, decimal, if◌then◌else◌}
+use Rattle.std.specs.Prelude.{ℕ, zero, suc, ◌-◌, ◌/◌, ◌%◌, ◌^◌, ◌<◌, ◌≡◌, ◌==◌, ◌||◌, List, [], ◌++◌, Option, Some, None, bit_and, codes, decimal, nat_lt, if◌then◌else◌}
 use Rattle.std.specs.List.{find, range_with_len}
 use Rattle.std.specs.Int.{bit_at}
 use Rattle.hdr_bits.specs.declared.cube.Cube.{Cube}
@@ -46,6 +46,20 @@ address_field_text fixed bits =
 unfoldable pub number_field_text : ℕ → ℕ → ℕ → List ℕ
 number_field_text width fixed bits =
     if fixed == 0 then codes "*" else (if fixed == 2 ^ width - 1 then decimal bits else ternary_text width fixed bits)
+
+-- how many bits field 0 to 5 has: dst and src 32, proto and flags 8, dport and sport 16
+abbrev pub width_of : ℕ → ℕ
+width_of field = if nat_lt field 2 then 32 else (if field == 2 || field == 5 then 8 else 16)
+
+-- a field by its place in a header: dst and src are addresses, the others are numbers
+unfoldable pub field_text : ℕ → ℕ → ℕ → List ℕ
+field_text field fixed bits = if nat_lt field 2 then address_field_text fixed bits else number_field_text (width_of field) fixed bits
+
+-- which bits of a field are fixed, and the digits at these: no digit stands at another bit
+pub record IsField (field fixed bits : ℕ) : Type 0 where
+  pub known : field < 6
+  pub below : fixed < 2 ^ width_of field
+  pub digits : bit_and bits fixed ≡ bits
 
 -- the six fields of a cube, each behind its name, by their fixed bits and the digits at those
 unfoldable pub fields_text : Header → Header → List ℕ

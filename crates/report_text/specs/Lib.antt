@@ -1,2 +1,5 @@
 pub mod FieldText
 pub mod ReportText
+pub mod Readings
+pub mod Reports
+pub mod Reading

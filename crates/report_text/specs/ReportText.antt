@@ -55,7 +55,17 @@ section_text names s =
 abbrev pub row_count : List Section → ℕ
 row_count sections = sum_by (λ s. length s.rows) sections
 
--- a report: its sections, and a last line with the number of all rows
+-- the last line, with the number of all rows
+unfoldable pub affected_text : List Section → List ℕ
+affected_text sections = codes "affected " ++ decimal (row_count sections) ++ codes "\n"
+
+-- a report: its sections, and its last line
 unfoldable pub report_text : Names → List Section → List ℕ
-report_text names sections =
-    flat_map (section_text names) sections ++ codes "affected " ++ decimal (row_count sections) ++ codes "\n"
+report_text names sections = flat_map (section_text names) sections ++ affected_text sections
+
+-- the extent of a comparison: how many devices and ingresses there are, and how many rows
+unfoldable pub summary_text : ℕ → List Section → List ℕ
+summary_text devices sections =
+    codes "devices " ++ decimal devices ++ codes "\n"
+    ++ codes "ingresses " ++ decimal (length sections) ++ codes "\n"
+    ++ affected_text sections

@@ -54,7 +54,7 @@ pub(crate) fn append_address(out: &mut Vec<u8>, address: u32) -> Result<(), NoMe
 }
 
 // Place `k` from the least significant one, as a ternary digit.
-fn ternary_digit(fixed: u32, bits: u32, k: u32) -> u8
+pub(crate) fn ternary_digit(fixed: u32, bits: u32, k: u32) -> u8
     requires { k < 32 }
     ensures { digit_text (bit_at fixed k) (bit_at bits k) ≡ result ∷ [] }
 {
@@ -84,7 +84,7 @@ pub(crate) fn append_ternary(
 }
 
 // The length of the prefix whose bits these are. They are neither all bits nor none.
-fn prefix_length(fixed: u32) -> Option<u32>
+pub(crate) fn prefix_length(fixed: u32) -> Option<u32>
     requires some { 0 < fixed }
     requires not_all { fixed < 2 ^ 32 - 1 }
     ensures { result ≡ prefix_length fixed }

@@ -1,6 +1,6 @@
 ghost use Rattle.std.specs.Prelude.{◌≡◌, ◌++◌, decimal, flat_map, IfOk, OnOk};
 ghost use Rattle.report_text.specs.FieldText.{address_text};
-ghost use Rattle.report_text.specs.ReportText.{name_text, place_text, change_text, outcome_text, label_text, row_text, section_text, report_text};
+ghost use Rattle.report_text.specs.ReportText.{name_text, place_text, change_text, outcome_text, label_text, row_text, section_text, row_count, affected_text, report_text, summary_text};
 
 use crate::cubes::append_cube;
 use crate::fields::{append, append_address, append_number};
@@ -37,15 +37,53 @@ pub fn report_bytes(alloc: Global, names: &Names, sections: &[Section]) -> Resul
     ensures { IfOk result (λ text. text.items ≡ report_text names.now sections.now) }
 {
     let mut text = Vec::new(alloc);
-    let mut affected: u128 = 0;
     for section in sections {
         append_section(&mut text, names, section)?;
-        affected += section.rows.as_slice().len() as u128;
     }
-    append(&mut text, b"affected ")?;
-    append_number(&mut text, affected)?;
-    append(&mut text, b"\n")?;
+    append_affected(&mut text, sections)?;
     Ok(text)
+}
+
+/// The extent of a comparison as text, each line of it ended by LF.
+///
+/// The lines are `devices N`, with the number of the devices, `ingresses N`, with that of the sections, and `affected N`
+/// with the number of all rows.
+#[tactic(auto, unfolding(crate::specs::ReportText::summary_text))]
+pub fn summary_bytes(
+    alloc: Global,
+    devices: usize,
+    sections: &[Section],
+) -> Result<Vec<u8>, NoMemory>
+    ensures { IfOk result (λ text. text.items ≡ summary_text devices sections.now) }
+{
+    let mut text = Vec::new(alloc);
+    append(&mut text, b"devices ")?;
+    append_number(&mut text, devices)?;
+    append(&mut text, b"\ningresses ")?;
+    append_number(&mut text, sections.len())?;
+    append(&mut text, b"\n")?;
+    append_affected(&mut text, sections)?;
+    Ok(text)
+}
+
+// The last line: the number of all rows.
+#[tactic(auto, unfolding(crate::specs::ReportText::affected_text))]
+fn append_affected(out: &mut Vec<u8>, sections: &[Section]) -> Result<(), NoMemory>
+    ensures { OnOk result (out.new.items ≡ out.old.items ++ affected_text sections.now) }
+{
+    append(out, b"affected ")?;
+    append_number(out, row_count(sections))?;
+    append(out, b"\n")
+}
+
+fn row_count(sections: &[Section]) -> u128
+    ensures { result ≡ row_count sections.now }
+{
+    let mut rows: u128 = 0;
+    for section in sections {
+        rows += section.rows.as_slice().len() as u128;
+    }
+    rows
 }
 
 fn append_name(out: &mut Vec<u8>, names: &Names, number: u32) -> Result<(), NoMemory>
