@@ -4,14 +4,12 @@
 ghost use Rattle.std.specs.Prelude.{◌≡◌, true};
 
 mod access_lists;
-mod beyond_input;
 mod interfaces;
 mod lists;
 mod port_tests;
 mod routes;
 
 use access_lists::same_access_lists;
-pub use beyond_input::same_beyond_input;
 use interfaces::same_interfaces;
 use lists::{same_nat_rules, same_numbers, same_text};
 use net_types::{Config, NetDevice};

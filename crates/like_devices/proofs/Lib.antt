@@ -1,2 +1,1 @@
 pub mod LikeLemmas
-pub mod BeyondLemmas

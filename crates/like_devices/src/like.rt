@@ -53,11 +53,7 @@ fn is_like(old: WorldRef, new: WorldRef, before: &Wiring, after: &Wiring, name: 
 }
 
 // The first device of that name. The wiring is that of the devices.
-pub(crate) fn device_named<'a>(
-    wiring: &Wiring,
-    devices: &'a [NetDevice],
-    name: u32,
-) -> Option<&'a NetDevice>
+fn device_named<'a>(wiring: &Wiring, devices: &'a [NetDevice], name: u32) -> Option<&'a NetDevice>
     requires { devices.now ≡ wiring.now.network.devices }
     ensures { option_copied result ≡ find (λ d. d.name == name) devices.now }
 {
@@ -67,8 +63,8 @@ pub(crate) fn device_named<'a>(
     device_at(devices, position)
 }
 
-// Whether the device's interfaces with these numbers are known to send alike in both worlds.
-pub(crate) fn send_alike(before: &Wiring, after: &Wiring, device: u32, numbers: &[u32]) -> bool
+/// Whether the device's interfaces with these numbers are known to send alike in both worlds. A false answer says nothing.
+pub fn send_alike(before: &Wiring, after: &Wiring, device: u32, numbers: &[u32]) -> bool
     ensures { result ≡ true → (n : ℕ) → Contains numbers.now n → SendAlike before.now after.now (record { device = device; interface = n }) }
 {
     for number in numbers {

@@ -96,8 +96,8 @@ impl<'a> Wiring<'a> {
         self.index.device_position(name)
     }
 
-    // What is kept of the segment of a place.
-    fn wire(&self, place: Place) -> Option<&Wire>
+    /// What is kept of the segment of a place.
+    pub(crate) fn wire(&self, place: Place) -> Option<&Wire>
         ensures { TellsSent self.now place (option_copied result) }
     {
         wire_at(&self.numbers, &self.wires, place)

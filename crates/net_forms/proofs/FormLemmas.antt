@@ -10,7 +10,7 @@ use Rattle.acl_match.proofs.NumberLemmas.{keeps_same, keeps_then}
 use Rattle.cube_diagram.specs.Functions.{Functions, Keeps, count_of, value_at}
 use Rattle.hdr_bits.specs.declared.header.Header.{Header}
 use Rattle.hdr_bits.specs.HeaderBits.{number, IsHeader}
-use Rattle.nat_static.specs.Rules.{rule_from_outside, rule_from_inside}
+use Rattle.nat_static.specs.Rules.{rule_from_outside, rule_from_inside, outer_from_outside, outer_from_inside}
 use Rattle.net_types.specs.declared.config.AccessList.{AccessList}
 use Rattle.net_types.specs.declared.config.Config.{Config}
 use Rattle.net_types.specs.declared.config.Interface.{Interface}
@@ -106,15 +106,21 @@ device_kept old new d f g a =
     let k = g.diagrams in
     let c = k.count in
     let bo = a.outside_below in
+    let boo = a.outer_outside_below in
     let bi = a.inside_below in
+    let boi = a.outer_inside_below in
     let bf = a.fates_below in
     record {
       numbers = a.numbers;
       seats = seats_kept old.diagrams new.diagrams d.config d.config.interfaces f.seats.items k a.seats;
       outside_below = omega (arith, c, bo);
       outside = λ h v. k.value f.outside a.outside_below (number h) ∙ a.outside h v;
+      outer_outside_below = omega (arith, c, boo);
+      outer_outside = λ h v. k.value f.outer_outside a.outer_outside_below (number h) ∙ a.outer_outside h v;
       inside_below = omega (arith, c, bi);
       inside = λ h v. k.value f.inside a.inside_below (number h) ∙ a.inside h v;
+      outer_inside_below = omega (arith, c, boi);
+      outer_inside = λ h v. k.value f.outer_inside a.outer_inside_below (number h) ∙ a.outer_inside h v;
       fates_below = omega (arith, c, bf);
       numbered = λ h v. subst (λ o. HasFate d.config new.fates o h.dst) (sym (k.value f.fates a.fates_below (number h))) (fate_kept d.config old.fates new.fates (value_at old.diagrams f.fates (number h)) h.dst g.fates (a.numbered h v));
     }
@@ -134,8 +140,12 @@ device_copied fs fates d f g i a =
       seats = subst (AreSeatForms fs d.config d.config.interfaces) (sym i.seats) a.seats;
       outside_below = subst (λ n. n < count_of fs) (sym i.outside) a.outside_below;
       outside = λ h v. ap (λ n. value_at fs n (number h)) i.outside ∙ a.outside h v;
+      outer_outside_below = subst (λ n. n < count_of fs) (sym i.outer_outside) a.outer_outside_below;
+      outer_outside = λ h v. ap (λ n. value_at fs n (number h)) i.outer_outside ∙ a.outer_outside h v;
       inside_below = subst (λ n. n < count_of fs) (sym i.inside) a.inside_below;
       inside = λ h v. ap (λ n. value_at fs n (number h)) i.inside ∙ a.inside h v;
+      outer_inside_below = subst (λ n. n < count_of fs) (sym i.outer_inside) a.outer_inside_below;
+      outer_inside = λ h v. ap (λ n. value_at fs n (number h)) i.outer_inside ∙ a.outer_inside h v;
       fates_below = subst (λ n. n < count_of fs) (sym i.fates) a.fates_below;
       numbered = λ h v. subst (λ n. HasFate d.config fates (value_at fs n (number h)) h.dst) (sym i.fates) (a.numbered h v);
     }
@@ -188,22 +198,44 @@ list_absent lists None e = refl
 list_absent lists (Some m) e = not_found (λ l. same_text l.name m) lists e
 
 -- ---- a device, as its functions are added one after the other
-pub device_made : (a b c d : Functions) (fates : List Fate) (x : NetDevice) (f : DeviceForm) → length x.config.interfaces ≤ length x.numbers → AreSeatForms a x.config x.config.interfaces f.seats.items → Keeps a b → Keeps b c → Keeps c d → f.outside < count_of b → ((h : Header) → IsHeader h → value_at b f.outside (number h) ≡ rule_from_outside x.config.nat h) → f.inside < count_of c → ((h : Header) → IsHeader h → value_at c f.inside (number h) ≡ rule_from_inside x.config.nat h) → f.fates < count_of d → ((h : Header) → IsHeader h → HasFate x.config fates (value_at d f.fates (number h)) h.dst) → IsDeviceForm d fates x f
-device_made a b c d fates x f numbers seats p q r bo outside bi inside bf fate =
-    let bd = keeps_then b c d q r in
-    let ad = keeps_then a b d p bd in
-    let n1 = bd.count in
-    let n2 = r.count in
-    record {
-      numbers = numbers;
-      seats = seats_kept a d x.config x.config.interfaces f.seats.items ad seats;
-      outside_below = omega (arith, n1, bo);
-      outside = λ h v. bd.value f.outside bo (number h) ∙ outside h v;
-      inside_below = omega (arith, n2, bi);
-      inside = λ h v. r.value f.inside bi (number h) ∙ inside h v;
-      fates_below = bf;
-      numbered = fate;
-    }
+
+-- a function that was added, and tells each header the rule
+pub record TellsRule (fs : Functions) (f : ℕ) (rule : Header → Option ℕ) : Type 0 where
+  pub below : f < count_of fs
+  pub exact : (h : Header) → IsHeader h → value_at fs f (number h) ≡ rule h
+
+tells_later : (a b : Functions) (f : ℕ) (rule : Header → Option ℕ) → Keeps a b → TellsRule a f rule → TellsRule b f rule
+tells_later a b f rule k t =
+    let n = k.count in
+    let l = t.below in
+    record { below = omega (arith, n, l); exact = λ h v. k.value f t.below (number h) ∙ t.exact h v }
+
+module _ (x : NetDevice) (f : DeviceForm) where
+  -- the tables after the lists, after each of the four functions of the rules, and after the fates
+  pub device_made : (a b c d e z : Functions) (fates : List Fate) → length x.config.interfaces ≤ length x.numbers → AreSeatForms a x.config x.config.interfaces f.seats.items → Keeps a b → Keeps b c → Keeps c d → Keeps d e → Keeps e z → TellsRule b f.outside (rule_from_outside x.config.nat) → TellsRule c f.outer_outside (outer_from_outside x.config.nat) → TellsRule d f.inside (rule_from_inside x.config.nat) → TellsRule e f.outer_inside (outer_from_inside x.config.nat) → f.fates < count_of z → ((h : Header) → IsHeader h → HasFate x.config fates (value_at z f.fates (number h)) h.dst) → IsDeviceForm z fates x f
+  device_made a b c d e z fates numbers seats ab bc cd de ez tb tc td te bf fate =
+      let dz = keeps_then d e z de ez in
+      let cz = keeps_then c d z cd dz in
+      let bz = keeps_then b c z bc cz in
+      let az = keeps_then a b z ab bz in
+      let outside = tells_later b z f.outside (rule_from_outside x.config.nat) bz tb in
+      let outer_outside = tells_later c z f.outer_outside (outer_from_outside x.config.nat) cz tc in
+      let inside = tells_later d z f.inside (rule_from_inside x.config.nat) dz td in
+      let outer_inside = tells_later e z f.outer_inside (outer_from_inside x.config.nat) ez te in
+      record {
+        numbers = numbers;
+        seats = seats_kept a z x.config x.config.interfaces f.seats.items az seats;
+        outside_below = outside.below;
+        outside = outside.exact;
+        outer_outside_below = outer_outside.below;
+        outer_outside = outer_outside.exact;
+        inside_below = inside.below;
+        inside = inside.exact;
+        outer_inside_below = outer_inside.below;
+        outer_inside = outer_inside.exact;
+        fates_below = bf;
+        numbered = fate;
+      }
 
 pub devices_more : (t0 t1 : Tables) (ds : List NetDevice) (fs : List DeviceForm) (i : ℕ) (d : NetDevice) (f : DeviceForm) → i < length ds → d ≡ get_or ds i d → TablesGrow t0 t1 → AreDevices t0.diagrams t0.fates (take i ds) fs → IsDeviceForm t1.diagrams t1.fates d f → AreDevices t1.diagrams t1.fates (take (i + 1) ds) (fs ++ f ∷ [])
 devices_more t0 t1 ds fs i d f l e g a r = along_more (IsDeviceForm t1.diagrams t1.fates) ds fs i d f l e (devices_kept t0 t1 (take i ds) fs g a) r

@@ -7,7 +7,7 @@ use Rattle.device_fates.specs.declared.fate.Fate.{Fate}
 use Rattle.net_forms.specs.declared.forms.DeviceForm.{DeviceForm}
 use Rattle.net_forms.specs.declared.forms.NetworkForm.{NetworkForm}
 use Rattle.net_forms.specs.declared.forms.Tables.{Tables}
-use Rattle.like_devices.specs.Like.{IsLike, IsLikeBeyondInput}
+use Rattle.like_devices.specs.Like.{IsLike}
 use Rattle.net_forms.specs.Along.{AreAlong}
 use Rattle.net_forms.specs.Forms.{IsDeviceForm}
 
@@ -35,20 +35,17 @@ pub record IsFormIn (n : NetworkForm) (d : NetDevice) (f : DeviceForm) : Type 0 
 pub record IsCopy (f g : DeviceForm) : Type 0 where
   pub seats : g.seats.items ≡ f.seats.items
   pub outside : g.outside ≡ f.outside
+  pub outer_outside : g.outer_outside ≡ f.outer_outside
   pub inside : g.inside ≡ f.inside
+  pub outer_inside : g.outer_inside ≡ f.outer_inside
   pub fates : g.fates ≡ f.fates
 
 -- the devices with these names do the same in both networks
 abbrev pub AreLike : NetworkForm → NetworkForm → List ℕ → Type 0
 AreLike old new names = All (IsLike (world_of old.world) (world_of new.world)) names
 
--- so they do with whatever their input lists let in
-abbrev pub AreLikeBeyondInput : NetworkForm → NetworkForm → List ℕ → Type 0
-AreLikeBeyondInput old new names = All (IsLikeBeyondInput (world_of old.world) (world_of new.world)) names
-
--- two networks compiled in one table, and the names of devices that they have alike, whole or beyond their input lists
-pub record ArePrepared (tables : Tables) (old new : NetworkForm) (like beyond : List ℕ) : Type 0 where
+-- two networks compiled in one table, and the names of devices that they have alike
+pub record ArePrepared (tables : Tables) (old new : NetworkForm) (like : List ℕ) : Type 0 where
   pub old_form : IsNetworkForm tables.diagrams tables.fates old
   pub new_form : IsNetworkForm tables.diagrams tables.fates new
   pub alike : AreLike old new like
-  pub beyond_input : AreLikeBeyondInput old new beyond

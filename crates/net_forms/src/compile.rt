@@ -17,7 +17,7 @@ use cube_diagram::Diagrams;
 use device_equality::same_device;
 use device_fates::add_device;
 use link_sends::Wiring;
-use nat_static::{inside_pieces, outside_pieces};
+use nat_static::{inside_pieces, outer_inside_pieces, outer_outside_pieces, outside_pieces};
 use net_types::{AccessList, Config, NetDevice, NoMemory, Text};
 use net_view::{WorldRef, same_text};
 use std::alloc::Global;
@@ -107,7 +107,9 @@ fn copy_of(alloc: Global, form: &DeviceForm) -> Result<DeviceForm, NoMemory>
     Ok(DeviceForm {
         seats,
         outside: form.outside,
+        outer_outside: form.outer_outside,
         inside: form.inside,
+        outer_inside: form.outer_inside,
         fates: form.fates,
     })
 }
@@ -121,19 +123,26 @@ fn compile_device(
     ensures kept { OnOk result (TablesGrow tables.old tables.new) }
 {
     let config = &device.config;
+    let rules = config.nat.as_slice();
     if device.numbers.as_slice().len() < config.interfaces.as_slice().len() {
         return Err(NoMemory);
     }
     let seats = compile_seats(alloc, &mut tables.diagrams, config)?;
-    let pieces = outside_pieces(alloc, config.nat.as_slice())?;
+    let pieces = outside_pieces(alloc, rules)?;
     let outside = tables.diagrams.first_match(&pieces)?;
-    let pieces = inside_pieces(alloc, config.nat.as_slice())?;
+    let pieces = outer_outside_pieces(alloc, rules)?;
+    let outer_outside = tables.diagrams.first_match(&pieces)?;
+    let pieces = inside_pieces(alloc, rules)?;
     let inside = tables.diagrams.first_match(&pieces)?;
+    let pieces = outer_inside_pieces(alloc, rules)?;
+    let outer_inside = tables.diagrams.first_match(&pieces)?;
     let fates = add_device(alloc, &mut tables.diagrams, &mut tables.fates, config)?;
     Ok(DeviceForm {
         seats,
         outside,
+        outer_outside,
         inside,
+        outer_inside,
         fates,
     })
 }

@@ -53,10 +53,14 @@ pub(crate) struct KnownList {
 pub struct DeviceForm {
     /// By the positions of its interfaces.
     pub seats: Vec<SeatForm>,
-    /// The number of the translation rule that applies from outside; no value where none does.
+    /// The number of the port or plain rule that replaces the destination from outside; no value where none does.
     pub outside: u32,
-    /// The number of the rule that applies from inside.
+    /// The number of the outer rule that replaces the source from outside.
+    pub outer_outside: u32,
+    /// The number of the port or plain rule that replaces the source from inside.
     pub inside: u32,
+    /// The number of the outer rule that replaces the destination from inside.
+    pub outer_inside: u32,
     /// The number of the fate of the destination.
     pub fates: u32,
 }

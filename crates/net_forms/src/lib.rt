@@ -13,6 +13,8 @@ mod version;
 
 pub use compile::compile_network;
 pub use forms::{DeviceForm, NetworkForm, SeatForm, Tables};
-pub use prepared::{Prepared, PreparedForms};
-pub use seat::{CompiledSeat, FormedSeat, seat_at};
+pub use prepared::{Prepared, PreparedForms, PreparedParts};
+pub use seat::{
+    CompiledSeat, FormedDevice, FormedSeat, device_named, formed_named, formed_numbered, seat_at,
+};
 pub use version::Version;

@@ -3,7 +3,7 @@ use crate::compile::compile_network;
 use crate::forms::{NetworkForm, Tables};
 use crate::seat::{CompiledSeat, seat_at};
 use indexmap::IndexSet;
-use like_devices::{alike_beyond_input, has_name, like_devices};
+use like_devices::{has_name, like_devices};
 use net_types::{NoMemory, Place};
 use net_view::WorldRef;
 use std::alloc::Global;
@@ -17,8 +17,6 @@ pub struct Prepared<'a> {
     new: NetworkForm<'a>,
     /// The names of devices that are known to do the same in both.
     like: IndexSet<u32>,
-    /// The names of devices that are known to do the same in both with whatever their input lists let in.
-    beyond_input: IndexSet<u32>,
 }
 
 impl<'a> Model for Prepared<'a> {
@@ -30,7 +28,7 @@ impl<'a> Model for Prepared<'a> {
 
     ghost view = { λ p. record { old = world_of p.old.world; new = world_of p.new.world } };
 
-    ghost invariant = { λ p. ArePrepared p.tables p.old p.new p.like.keys p.beyond_input.keys };
+    ghost invariant = { λ p. ArePrepared p.tables p.old p.new p.like.keys };
 }
 
 /// The forms of two networks, in one table.
@@ -41,12 +39,22 @@ pub struct PreparedForms<'a> {
     pub new: &'a NetworkForm<'a>,
 }
 
+/// Two networks compiled in one table, taken apart: functions may be added to the table.
+#[derive(Drop)]
+pub struct PreparedParts<'a> {
+    pub tables: Tables,
+    pub old: NetworkForm<'a>,
+    pub new: NetworkForm<'a>,
+    /// The names of devices that do the same in both.
+    pub like: IndexSet<u32>,
+}
+
 impl<'a> Prepared<'a> {
     ghost use Rattle.std.specs.Prelude.{◌≡◌, true, IfOk, IfSome, option_map};
     ghost use Rattle.net_view.specs.Borrowed.{seat_of, world_of};
-    ghost use Rattle.like_devices.specs.Like.{IsLike, IsLikeBeyondInput};
+    ghost use Rattle.like_devices.specs.Like.{IsLike};
     ghost use Rattle.net_types.specs.World.{seat_at};
-    ghost use Rattle.net_forms.specs.Pairs.{ArePreparedForms};
+    ghost use Rattle.net_forms.specs.Pairs.{ArePreparedForms, ArePreparedParts};
     ghost use Rattle.net_forms.specs.Seats.{StandsIn};
     ghost use Rattle.net_forms.specs.Worlds.{world_in};
 
@@ -63,13 +71,11 @@ impl<'a> Prepared<'a> {
         let known = Some(&before);
         let after = compile_network(alloc, &mut tables, new, known)?;
         let like = like_devices(alloc, old, new, &before.wiring, &after.wiring)?;
-        let beyond_input = alike_beyond_input(alloc, old, new, &before.wiring, &after.wiring)?;
         Ok(Prepared {
             tables,
             old: before,
             new: after,
             like,
-            beyond_input,
         })
     }
 
@@ -81,6 +87,18 @@ impl<'a> Prepared<'a> {
             tables: &self.tables,
             old: &self.old,
             new: &self.new,
+        }
+    }
+
+    /// Its parts.
+    pub fn into_parts(self) -> PreparedParts<'a>
+        ensures { ArePreparedParts self.entry result }
+    {
+        PreparedParts {
+            tables: self.tables,
+            old: self.old,
+            new: self.new,
+            like: self.like,
         }
     }
 
@@ -100,12 +118,5 @@ impl<'a> Prepared<'a> {
         ensures { result ≡ true → IsLike self.now.old self.now.new name }
     {
         has_name(&self.like, name)
-    }
-
-    /// Whether it is known to do so with whatever its input lists let in. A false answer says nothing.
-    pub fn is_alike_beyond_input(&self, name: u32) -> bool
-        ensures { result ≡ true → IsLikeBeyondInput self.now.old self.now.new name }
-    {
-        has_name(&self.beyond_input, name)
     }
 }

@@ -13,9 +13,9 @@ use net_view::{SeatRef, device_at, same_text, seat_in};
 
 /// A device with its functions.
 #[derive(Clone, Copy)]
-pub(crate) struct FormedDevice<'a> {
-    pub(crate) device: &'a NetDevice,
-    pub(crate) form: &'a DeviceForm,
+pub struct FormedDevice<'a> {
+    pub device: &'a NetDevice,
+    pub form: &'a DeviceForm,
 }
 
 /// An interface with the functions of its lists.
@@ -86,7 +86,7 @@ pub fn seat_at<'a>(
 }
 
 /// The first device of that name.
-pub(crate) fn device_named<'a>(network: &'a NetworkForm<'a>, name: u32) -> Option<FormedDevice<'a>>
+pub fn device_named<'a>(network: &'a NetworkForm<'a>, name: u32) -> Option<FormedDevice<'a>>
     requires { IsIndexed network.now }
     ensures device { option_map (λ d. d.device.now) result ≡ find (λ d. d.name == name) network.now.world.network.now.devices }
     ensures form { IfSome result (λ d. IsFormIn network.now d.device.now d.form.now) }
@@ -109,8 +109,8 @@ fn form_at<'a>(forms: &'a [DeviceForm], n: usize) -> Option<&'a DeviceForm>
     forms.get(n)
 }
 
-// The interface at the first position that has this number.
-fn formed_numbered<'a>(formed: FormedDevice<'a>, number: u32) -> Option<FormedSeat<'a>>
+/// The device's interface at the first position that has this number.
+pub fn formed_numbered<'a>(formed: FormedDevice<'a>, number: u32) -> Option<FormedSeat<'a>>
     requires { length formed.form.now.seats.items ≡ length formed.device.now.config.interfaces }
     ensures seat { option_map (λ v. seat_of v.seat) result ≡ seat_numbered formed.entry.device.now number }
     ensures formed { IfSome result (λ v. IsFormOfSeat formed.entry.device.now formed.entry.form.now (seat_of v.seat) v.form) }
@@ -127,8 +127,8 @@ fn number_position(numbers: &[u32], number: u32) -> Option<usize>
     numbers.iter().position(|n| *n == number)
 }
 
-// The device's first interface of that name.
-fn formed_named<'a>(formed: FormedDevice<'a>, name: &[u8]) -> Option<FormedSeat<'a>>
+/// The device's first interface of that name.
+pub fn formed_named<'a>(formed: FormedDevice<'a>, name: &[u8]) -> Option<FormedSeat<'a>>
     requires { length formed.form.now.seats.items ≡ length formed.device.now.config.interfaces }
     ensures seat { option_map (λ v. seat_of v.seat) result ≡ seat_named formed.entry.device.now name.now }
     ensures formed { IfSome result (λ v. IsFormOfSeat formed.entry.device.now formed.entry.form.now (seat_of v.seat) v.form) }

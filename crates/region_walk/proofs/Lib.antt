@@ -6,4 +6,3 @@ pub mod NumberLemmas
 pub mod Turns
 pub mod LoopLemmas
 pub mod SpotEquality
-pub mod ReachLemmas

@@ -1,19 +1,18 @@
 -- The ends of a trace are the ends of the walks.
-use Rattle.std.proofs.Common.{◌≡◌, ℕ, zero, suc, ◌+◌, ◌≤◌, List, map, sym, subst, ◌∙◌, arith, ◌==◌}
+use Rattle.std.proofs.Common.{◌≡◌, ℕ, zero, suc, ◌+◌, ◌≤◌, List, map, sym, ◌∙◌, arith, ◌==◌}
 use Rattle.std.specs.Prelude.{flat_map}
-use Rattle.std.proofs.lemmas.List.{map-id}
 use Rattle.hdr_bits.specs.declared.header.Header.{Header}
 use Rattle.net_types.specs.declared.label.Outcome.{Outcome}
 use Rattle.net_types.specs.declared.network.Place.{Place}
 use Rattle.net_types.specs.declared.network.State.{State}
 use Rattle.net_types.specs.World.{World}
 use Rattle.net_types.specs.Moves.{moves}
-use Rattle.net_types.specs.Walks.{states_after, next_states, next_state, ends_at, ends_after, ends_below, ends, end_of, outcome_of, state_at, label}
+use Rattle.net_types.specs.Walks.{states_after, ends_at, ends_after, ends_below, ends, end_of, outcome_of, state_at, label}
 use Rattle.net_types.specs.Order.{in_order, outcome_cmp}
 use Rattle.net_types.proofs.Ordered.{is_in_order, in_order_sorted, Contains_from_has, has_from_Contains, in_order_has}
 use Rattle.net_types.proofs.Outcomes.{total, exact}
 use Rattle.transfer_rel.specs.CubeMoves.{SameSet}
-use Rattle.region_walk.specs.Traces.{Step, state_of_step, IsTrace, step_ends, trace_ends_below, AgreeAlong}
+use Rattle.region_walk.specs.Traces.{Step, state_of_step, IsTrace, step_ends, trace_ends_below}
 use Rattle.region_walk.proofs.SetLemmas.{same_refl, same_sym, same_trans, same_append, same_map, same_flat_map, same_filter_map}
 
 -- lists with the same outcomes have one order
@@ -34,32 +33,6 @@ trace_ends w s limit trace r t (suc n) l =
     (trace_ends w s limit trace r t n (omega (arith, l)))
     (same_flat_map (ends_at w (n + 1 == t)) (step_ends (n + 1 == t)) state_of_step (states_after w n s) (trace n) (r.states n (omega (arith, l)))
     (λ x c. same_filter_map (end_of (n + 1 == t)) (moves w x.state.place x.state.header) x.moves (r.moves n (omega (arith, l)) x c)))
-
-to_itself : (xs ys : List State) → SameSet xs ys → SameSet xs (map (λ (u : State). u) ys)
-to_itself xs ys h = subst (λ l. SameSet xs l) (sym (map-id ys)) h
-
--- where the worlds agree along all walks, the walks are the same
-same_states : (old new : World) (s : State) → AgreeAlong old new s → (n : ℕ) → SameSet (states_after old n s) (states_after new n s)
-same_states old new s a zero = same_refl (states_after old 0 s)
-same_states old new s a (suc n) =
-    same_flat_map (next_states old) (next_states new) (λ u. u) (states_after old n s) (states_after new n s)
-    (to_itself (states_after old n s) (states_after new n s) (same_states old new s a n))
-    (λ u c. same_filter_map next_state (moves old u.place u.header) (moves new u.place u.header) (a.moves n u ((same_states old new s a n u).1 c)))
-
-same_ends : (old new : World) (s : State) → AgreeAlong old new s → (t n : ℕ) → SameSet (ends_below old t s n) (ends_below new t s n)
-same_ends old new s a t zero = same_refl (ends_below old t s 0)
-same_ends old new s a t (suc n) =
-    same_append (ends_below old t s n) (ends_after old t s n) (ends_below new t s n) (ends_after new t s n) (same_ends old new s a t n)
-    (same_flat_map (ends_at old (n + 1 == t)) (ends_at new (n + 1 == t)) (λ u. u) (states_after old n s) (states_after new n s)
-    (to_itself (states_after old n s) (states_after new n s) (same_states old new s a n))
-    (λ u c. same_filter_map (end_of (n + 1 == t)) (moves old u.place u.header) (moves new u.place u.header) (a.moves n u ((same_states old new s a n u).1 c))))
-
--- where the walks of the old world meet no difference, the header has one label in both
-pub same_label : (old new : World) (p : Place) (h : Header) → AgreeAlong old new (state_at p h) → (t : ℕ) → label old t p h ≡ label new t p h
-unfolding label
-same_label old new p h a t =
-    same_order_of (map (outcome_of h) (ends old t (state_at p h))) (map (outcome_of h) (ends new t (state_at p h)))
-    (same_map (outcome_of h) (ends old t (state_at p h)) (ends new t (state_at p h)) (same_ends old new (state_at p h) a t t))
 
 pub label_from_trace : (w : World) (p : Place) (h : Header) (limit : ℕ) (trace : ℕ → List Step) → IsTrace w (state_at p h) limit trace → (t : ℕ) → t ≤ limit → (outs : List Outcome) → SameSet outs (map (outcome_of h) (trace_ends_below t trace t)) → in_order outcome_cmp outs ≡ label w t p h
 unfolding label

@@ -4,7 +4,5 @@ pub mod Traces
 pub mod Spots
 pub mod Visits
 pub mod Seen
-pub mod Reached
-pub mod Courses
 pub mod Region
 pub mod Answers

@@ -26,7 +26,3 @@ step_ends last x = filter_map (end_of last) x.moves
 abbrev pub trace_ends_below : ℕ → (ℕ → List Step) → ℕ → List End
 trace_ends_below t trace zero = []
 trace_ends_below t trace (suc n) = trace_ends_below t trace n ++ flat_map (step_ends (n + 1 == t)) (trace n)
-
--- along all walks from the state the two worlds have the same moves
-pub record AgreeAlong (old new : World) (s : State) : Type 0 where
-  pub moves : (n : ℕ) (u : State) → Contains (states_after old n s) u → SameSet (moves old u.place u.header) (moves new u.place u.header)

@@ -5,13 +5,10 @@
 mod graph;
 mod level;
 mod outcomes;
-mod reach;
 mod regions;
-mod shortcut;
 mod spot;
 mod visit;
 mod walk;
 
 pub use graph::Graph;
 pub use regions::{Explored, explore};
-pub use shortcut::{Touch, touch_of};

@@ -1,6 +1,5 @@
 ghost use Rattle.std.specs.Prelude.{IfOk};
 ghost use Rattle.cube_alg.specs.OnCubes.{IsOpen};
-ghost use Rattle.net_types.specs.World.{World};
 ghost use Rattle.region_walk.specs.Region.{AreHalves};
 ghost use Rattle.region_walk.specs.Answers.{OfExplored};
 ghost use Rattle.net_forms.specs.Worlds.{world_in};
@@ -50,8 +49,8 @@ pub fn explore<'a>(
     }
 }
 
-/// The halves of the cube by a bit that is open in it.
-pub(crate) fn halves(cube: &Cube, bit: u32) -> (Cube, Cube)
+// The halves of the cube by a bit that is open in it.
+fn halves(cube: &Cube, bit: u32) -> (Cube, Cube)
     requires { IsOpen cube.now bit }
     ensures { AreHalves cube.now result.0 result.1 }
 {

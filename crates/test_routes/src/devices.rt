@@ -1,7 +1,7 @@
 //! Devices that differ in one thing each: each is found equal to its copy. That no other is found so is proved.
 
 use crate::read::read;
-use device_equality::{same_beyond_input, same_device};
+use device_equality::same_device;
 use net_types::{List, NetDevice};
 use std::alloc::Global;
 use std::io;
@@ -82,8 +82,7 @@ const LINES_CHANGED: [(usize, &str); 38] = [
     ),
 ];
 
-/// Prints how many devices there are and how many of them are found equal to their copies; then which changes are seen
-/// where lists that are for input alone may differ.
+/// Prints how many devices there are and how many of them are found equal to their copies.
 pub(crate) fn print_devices(rt: &HostRuntime) -> io::Result<()> {
     let Some(changes) = changes(rt.alloc()) else {
         return println!(rt; "no memory");
@@ -91,12 +90,6 @@ pub(crate) fn print_devices(rt: &HostRuntime) -> io::Result<()> {
     let devices = changes.len();
     let equal = count_equal(rt.alloc(), &changes);
     println!(rt; "devices {devices}, found equal to their copies {equal}")?;
-    for (a, b) in BEYOND_INPUT {
-        match are_alike(rt.alloc(), a, b) {
-            Some(alike) => println!(rt; "alike beyond input {alike}")?,
-            None => println!(rt; "refused")?,
-        }
-    }
     Ok(())
 }
 
@@ -116,54 +109,10 @@ fn count_equal(alloc: Global, changes: &[Change]) -> usize {
     equal.count()
 }
 
-/// Two changes of the plain device. A list that is for input alone may differ, and nothing else may.
-const BEYOND_INPUT: [((usize, &str), (usize, &str)); 6] = [
-    ((0, "hostname R1"), (10, " 10 deny tcp any any")),
-    (
-        (0, "hostname R1"),
-        (10, " 10 permit tcp any any\n 20 permit udp any any"),
-    ),
-    // The list is for output too.
-    (
-        (7, " ip access-group 101 out"),
-        (7, " ip access-group 101 out"),
-    ),
-    (
-        (7, " ip access-group 101 out"),
-        (
-            7,
-            " ip access-group 101 out\nip access-list extended 101\n 5 deny udp any any",
-        ),
-    ),
-    ((0, "hostname R1"), (11, "ip access-list extended 103")),
-    (
-        (0, "hostname R1"),
-        (8, "ip route 172.16.0.0 255.255.0.0 Ethernet0 10.0.0.2 2"),
-    ),
-];
-
 fn are_equal(alloc: Global, a: Change, b: Change) -> Option<bool> {
     let a = device(alloc, a)?;
     let b = device(alloc, b)?;
     Some(same_device(&a, &b))
-}
-
-fn are_alike(alloc: Global, a: (usize, &'static str), b: (usize, &'static str)) -> Option<bool> {
-    let a = device(
-        alloc,
-        Change::Line {
-            index: a.0,
-            text: a.1,
-        },
-    )?;
-    let b = device(
-        alloc,
-        Change::Line {
-            index: b.0,
-            text: b.1,
-        },
-    )?;
-    Some(same_beyond_input(&a, &b))
 }
 
 fn device(alloc: Global, change: Change) -> Option<NetDevice> {

@@ -1,10 +1,10 @@
-//! Static address translation by a plain rule and a port rule with one global address.
+//! Static address translation by a plain rule and a port rule with one global address, and by an outer rule.
 
 use crate::read::read_lines;
 use hdr_bits::Header;
 use nat_static::{
     compile_inside, compile_outside, from_inside, from_outside, inside_pieces, inside_stamp,
-    outside_pieces, outside_stamp,
+    outer_inside_pieces, outer_outside_pieces, outside_pieces, outside_stamp,
 };
 use net_types::NatRule;
 use std::alloc::Global;
@@ -13,7 +13,9 @@ use std::io;
 // 10.0.0.5 inside is 203.0.113.5 outside, and so is port 80 of 10.0.0.6 as port 8080.
 const PLAIN: &str = "ip nat inside source static 10.0.0.5 203.0.113.5";
 
-const PORT: &str = "ip nat inside source static tcp 10.0.0.6 80 203.0.113.5 8080";
+// 198.51.100.7 outside is 10.8.0.7 inside.
+const OTHERS: &str = "ip nat inside source static tcp 10.0.0.6 80 203.0.113.5 8080
+ip nat outside source static 198.51.100.7 10.8.0.7";
 
 /// Of a side of a header: the address, the protocol, the port.
 const SIDES: [(u32, u8, u16); 8] = [
@@ -27,26 +29,46 @@ const SIDES: [(u32, u8, u16); 8] = [
     (0x0a00_0005, 6, 80),
 ];
 
-/// Prints of each side what it is as a destination from outside and as a source from inside.
+// The host at the other end, as it is known outside and inside, and a host that no rule knows.
+const GLOBAL: u32 = 0xc633_6407;
+
+const LOCAL: u32 = 0x0a08_0007;
+
+const OTHER: u32 = 9;
+
+/// Prints of each side what it is as a destination from outside and as a source from inside, and what becomes of the other
+/// side: of a host that an outer rule knows, and of another one.
 pub(crate) fn print_translation(rt: &HostRuntime) -> io::Result<()> {
-    let Some(config) = read_lines(rt.alloc(), PLAIN, PORT) else {
+    let Some(config) = read_lines(rt.alloc(), PLAIN, OTHERS) else {
         return println!(rt; "refused: {PLAIN}");
     };
     for (address, proto, port) in SIDES {
         print_side(rt, address, port)?;
         print!(rt; " protocol {proto}: to ")?;
-        print_outside(rt, config.nat.as_slice(), &to(address, proto, port))?;
+        print_outside(rt, config.nat.as_slice(), &to(GLOBAL, address, proto, port))?;
+        print!(rt; ", ")?;
+        print_outside(rt, config.nat.as_slice(), &to(OTHER, address, proto, port))?;
         print!(rt; ", from ")?;
-        print_inside(rt, config.nat.as_slice(), &from(address, proto, port))?;
+        print_inside(
+            rt,
+            config.nat.as_slice(),
+            &from(LOCAL, address, proto, port),
+        )?;
+        print!(rt; ", ")?;
+        print_inside(
+            rt,
+            config.nat.as_slice(),
+            &from(OTHER, address, proto, port),
+        )?;
         println!(rt; "")?;
     }
     Ok(())
 }
 
-fn to(dst: u32, proto: u8, dport: u16) -> Header {
+fn to(src: u32, dst: u32, proto: u8, dport: u16) -> Header {
     Header {
         dst,
-        src: 9,
+        src,
         proto,
         dport,
         sport: 80,
@@ -54,9 +76,9 @@ fn to(dst: u32, proto: u8, dport: u16) -> Header {
     }
 }
 
-fn from(src: u32, proto: u8, sport: u16) -> Header {
+fn from(dst: u32, src: u32, proto: u8, sport: u16) -> Header {
     Header {
-        dst: 9,
+        dst,
         src,
         proto,
         dport: 8080,
@@ -71,7 +93,8 @@ fn print_outside(rt: &HostRuntime, rules: &[NatRule], header: &Header) -> io::Re
     if !(by_cubes && outside_by_rule(rt.alloc(), rules, header) == Some(answer)) {
         return print!(rt; "?");
     }
-    print_side(rt, answer.dst, answer.dport)
+    print_side(rt, answer.dst, answer.dport)?;
+    print_other(rt, answer.src)
 }
 
 fn print_inside(rt: &HostRuntime, rules: &[NatRule], header: &Header) -> io::Result<()> {
@@ -80,12 +103,18 @@ fn print_inside(rt: &HostRuntime, rules: &[NatRule], header: &Header) -> io::Res
     if !(by_cubes && inside_by_rule(rt.alloc(), rules, header) == Some(answer)) {
         return print!(rt; "?");
     }
-    print_side(rt, answer.src, answer.sport)
+    print_side(rt, answer.src, answer.sport)?;
+    print_other(rt, answer.dst)
 }
 
 fn print_side(rt: &HostRuntime, address: u32, port: u16) -> io::Result<()> {
     let [a, b, c, d] = address.to_be_bytes();
     print!(rt; "{a}.{b}.{c}.{d}:{port}")
+}
+
+fn print_other(rt: &HostRuntime, address: u32) -> io::Result<()> {
+    let [a, b, c, d] = address.to_be_bytes();
+    print!(rt; " with {a}.{b}.{c}.{d}")
 }
 
 // By the stamp of the cube that holds the header.
@@ -101,14 +130,19 @@ fn inside_by_cubes(alloc: Global, rules: &[NatRule], header: &Header) -> Option<
     Some(held.1.apply(header))
 }
 
-// By the stamp of the first rule whose piece holds the header.
+// By the stamp of the first rules whose pieces hold the header.
 fn outside_by_rule(alloc: Global, rules: &[NatRule], header: &Header) -> Option<Header> {
     let pieces = outside_pieces(alloc, rules).ok()?;
     let rule = pieces
         .iter()
         .find(|p| p.cube.contains(header))
         .map(|p| p.value);
-    Some(outside_stamp(rules, rule).apply(header))
+    let outer_pieces = outer_outside_pieces(alloc, rules).ok()?;
+    let outer = outer_pieces
+        .iter()
+        .find(|p| p.cube.contains(header))
+        .map(|p| p.value);
+    Some(outside_stamp(rules, rule, outer).apply(header))
 }
 
 fn inside_by_rule(alloc: Global, rules: &[NatRule], header: &Header) -> Option<Header> {
@@ -117,5 +151,10 @@ fn inside_by_rule(alloc: Global, rules: &[NatRule], header: &Header) -> Option<H
         .iter()
         .find(|p| p.cube.contains(header))
         .map(|p| p.value);
-    Some(inside_stamp(rules, rule).apply(header))
+    let outer_pieces = outer_inside_pieces(alloc, rules).ok()?;
+    let outer = outer_pieces
+        .iter()
+        .find(|p| p.cube.contains(header))
+        .map(|p| p.value);
+    Some(inside_stamp(rules, rule, outer).apply(header))
 }

@@ -1,8 +1,6 @@
-pub mod PlaceLemmas
 pub mod StampLemmas
 pub mod SetLemmas
 pub mod LeaveLemmas
+pub mod ArriveLemmas
 pub mod ForwardLemmas
 pub mod AnswerLemmas
-pub mod OnwardLemmas
-pub mod AgreeLemmas

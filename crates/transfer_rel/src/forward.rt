@@ -174,7 +174,7 @@ fn add_move(moves: &mut Vec<StampMove>, step: StampMove) -> Result<(), NoMemory>
 }
 
 /// Whether the move is among these.
-pub(crate) fn has_move(moves: &[StampMove], step: &StampMove) -> bool
+fn has_move(moves: &[StampMove], step: &StampMove) -> bool
     ensures { result ≡ true → Contains moves.now step.now }
 {
     for m in moves {
@@ -202,13 +202,13 @@ fn same_move(a: &StampMove, b: &StampMove) -> bool
     }
 }
 
-pub(crate) fn same_place(p: Place, q: Place) -> bool
+fn same_place(p: Place, q: Place) -> bool
     ensures { result ≡ true → p ≡ q }
 {
     p == q
 }
 
-pub(crate) fn same_stamp(s: Stamp, t: Stamp) -> bool
+fn same_stamp(s: Stamp, t: Stamp) -> bool
     ensures { result ≡ true → s ≡ t }
 {
     s == t

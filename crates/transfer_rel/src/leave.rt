@@ -61,7 +61,7 @@ fn leave(at: CompiledSeat, out: FormedSeat, next: Next, cube: &Cube) -> OnCube<S
     match go_out(at, out, cube) {
         OnCube::Divides { bit } => OnCube::Divides { bit },
         OnCube::All { answer } => {
-            let sent = pass_on(at, out, next, &answer.cube);
+            let sent = pass_on(at, out, next, cube, &answer.cube);
             sent_with(out.seat.place, answer.stamp, sent)
         }
     }
@@ -89,12 +89,19 @@ fn stamped_move(place: Place, stamp: Stamp, sent: Sent) -> StampMove
     }
 }
 
-// The output list sees the translated packet, and what it denies is lost.
-fn pass_on(at: CompiledSeat, out: FormedSeat, next: Next, cube: &Cube) -> OnCube<Sent>
+// The output list sees the translated headers, and what it denies is lost. The next address is that of the headers as
+// they came to the lookup.
+fn pass_on(
+    at: CompiledSeat,
+    out: FormedSeat,
+    next: Next,
+    cube: &Cube,
+    translated: &Cube,
+) -> OnCube<Sent>
     requires { IsSeatForm at.tables.now.diagrams at.seat.device.now.config out.seat.interface.now out.form }
-    ensures { OfPassedOn at.entry.wiring.now (seat_of at.entry.seat) (seat_of out.entry.seat) next cube.now result }
+    ensures { OfPassedOn at.entry.wiring.now (seat_of at.entry.seat) (seat_of out.entry.seat) next cube.now translated.now result }
 {
-    match ask_list(&at.tables.diagrams, out.form.output, cube) {
+    match ask_list(&at.tables.diagrams, out.form.output, translated) {
         OnCube::Divides { bit } => OnCube::Divides { bit },
         OnCube::All { answer } => match answer {
             Gate::Denies => OnCube::All { answer: Sent::Lost },
@@ -103,14 +110,20 @@ fn pass_on(at: CompiledSeat, out: FormedSeat, next: Next, cube: &Cube) -> OnCube
     }
 }
 
-/// From an inside to an outside interface the source is translated.
-pub(crate) fn go_out(at: CompiledSeat, out: FormedSeat, cube: &Cube) -> OnCube<Stamped>
+/// From an inside to an outside interface they are translated from inside.
+fn go_out(at: CompiledSeat, out: FormedSeat, cube: &Cube) -> OnCube<Stamped>
     requires { IsCompiledSeat at }
     ensures { OfTranslated (going_out (seat_of at.entry.seat) (seat_of out.entry.seat)) cube.now result }
 {
     if is_inside(at.seat.interface.side) && is_outside(out.seat.interface.side) {
         let rules = at.seat.device.config.nat.as_slice();
-        return translate_out(&at.tables.diagrams, at.device.inside, rules, cube);
+        return translate_out(
+            &at.tables.diagrams,
+            at.device.inside,
+            at.device.outer_inside,
+            rules,
+            cube,
+        );
     }
     untranslated(cube)
 }

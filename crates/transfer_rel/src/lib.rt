@@ -4,21 +4,14 @@
 //! each, whatever the sizes of lists and tables.
 #![tactic(auto)]
 
-mod agree;
 mod answer;
 mod arrive;
 mod forward;
 mod gate;
 mod leave;
 mod moves;
-mod next;
-mod onward;
-mod places;
 mod translate;
 
-pub use agree::agree_on;
 pub use answer::moves_on;
-pub use moves::{Agreement, Arrivals, CubeMoves, NextCubes, NextPlace, NextPlaces, StampMove};
+pub use moves::{CubeMoves, StampMove};
 pub use net_forms::{Prepared, Version};
-pub use next::next_cubes;
-pub use places::next_places;

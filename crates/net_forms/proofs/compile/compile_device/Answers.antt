@@ -8,4 +8,11 @@ returns-clause-form c =
     let a = ap length c.as_slice.ensures in
     let b = ap length c.as_slice-2.ensures in
     let few = c.if-as_slice.false in
-    device_made c.compile_seats.new.diagrams c.first_match.new.self c.first_match-2.new.self c.add_device.new.diagrams c.add_device.new.fates c.args.device.now _ (omega (arith, a, b, few)) c.in_ok-seats.ensures.seats c.in_ok-outside.ensures.kept c.in_ok-inside.ensures.kept c.in_ok-fates.ensures.kept c.in_ok-outside.ensures.below (λ h v. (let e = c.in_ok-outside.ensures.exact (number h) in (rw c.deref.ensures.value at e) ∙ (rw c.as_slice-3.ensures at (c.in_ok-pieces.ensures h v)))) c.in_ok-inside.ensures.below (λ h v. (let e = c.in_ok-inside.ensures.exact (number h) in (rw c.deref-2.ensures.value at e) ∙ (rw c.as_slice-4.ensures at (c.in_ok-pieces-2.ensures h v)))) c.in_ok-fates.ensures.below c.in_ok-fates.ensures.exact
+    device_made c.args.device.now _ c.compile_seats.new.diagrams c.first_match.new.self c.first_match-2.new.self c.first_match-3.new.self c.first_match-4.new.self c.add_device.new.diagrams c.add_device.new.fates (omega (arith, a, b, few))
+    c.in_ok-seats.ensures.seats
+    c.in_ok-outside.ensures.kept c.in_ok-outer_outside.ensures.kept c.in_ok-inside.ensures.kept c.in_ok-outer_inside.ensures.kept c.in_ok-fates.ensures.kept
+    (record { below = c.in_ok-outside.ensures.below; exact = λ h v. (let e = c.in_ok-outside.ensures.exact (number h) in (rw c.deref.ensures.value at e) ∙ (rw c.as_slice-rules.ensures at (c.in_ok-pieces.ensures h v))) })
+    (record { below = c.in_ok-outer_outside.ensures.below; exact = λ h v. (let e = c.in_ok-outer_outside.ensures.exact (number h) in (rw c.deref-2.ensures.value at e) ∙ (rw c.as_slice-rules.ensures at (c.in_ok-pieces-2.ensures h v))) })
+    (record { below = c.in_ok-inside.ensures.below; exact = λ h v. (let e = c.in_ok-inside.ensures.exact (number h) in (rw c.deref-3.ensures.value at e) ∙ (rw c.as_slice-rules.ensures at (c.in_ok-pieces-3.ensures h v))) })
+    (record { below = c.in_ok-outer_inside.ensures.below; exact = λ h v. (let e = c.in_ok-outer_inside.ensures.exact (number h) in (rw c.deref-4.ensures.value at e) ∙ (rw c.as_slice-rules.ensures at (c.in_ok-pieces-4.ensures h v))) })
+    c.in_ok-fates.ensures.below c.in_ok-fates.ensures.exact

@@ -1,4 +1,3 @@
-use Rattle.std.proofs.Common.{subst}
 use Rattle.net_forms.proofs.FormLemmas.{devices_more, tables_then, known_kept_in}
 use Rattle.net_forms.proofs.compile.compile_devices.Goals as goal
 
