@@ -1,6 +1,7 @@
 #!/usr/bin/env bash
-# Times the built program on networks that networks.py makes: rows, seconds and megabytes; and, by crates/bench_compare, how
-# many regions of the headers the comparison takes and where the time goes. Words choose one network, as `list 100 20`.
+# Times the built program on networks that networks.py makes: rows, seconds and megabytes; and, by crates/bench_compare, the
+# places, their ways, the nodes of the table after each stage, and where the time goes. Words choose one network, as
+# `list 100 20`, or `generated 7 200`: the networks of `gen 7 200`, from files, and that command itself.
 cd "$(dirname "$0")/.." || exit 1
 folder=$(mktemp -d) || exit 1
 trap 'rm -rf "$folder"' EXIT
@@ -11,17 +12,29 @@ trap 'rm -rf "$folder"' EXIT
 measure() {
     name=$*
     rm -rf "${folder:?}"/*
-    python3 bench/networks.py "$1" "$folder" "${@:2}" || exit 1
+    if [ "$1" = generated ]; then
+        python3 tests/generated.py "$folder" "$2" "$3" || exit 1
+    else
+        python3 bench/networks.py "$1" "$folder" "${@:2}" || exit 1
+    fi
     python3 - "$name" "$folder" <<'PYTHON'
 import resource, subprocess, sys, time
 name, folder = sys.argv[1:]
 words = [folder + "/old", folder + "/new", folder + "/links"]
-start = time.monotonic()
-run = subprocess.run(["./review", "compare", *words], stdout=subprocess.PIPE)
-seconds = time.monotonic() - start
-memory = resource.getrusage(resource.RUSAGE_CHILDREN).ru_maxrss // 1024
-last = run.stdout.decode().splitlines()[-1:] or ["nothing"]
-print("%-20s status %d, %s rows, %.3f s, %d MB" % (name, run.returncode, last[0].removeprefix("affected "), seconds, memory))
+
+
+def timed(name, *words):
+    start = time.monotonic()
+    run = subprocess.run(["./review", *words], stdout=subprocess.PIPE)
+    seconds = time.monotonic() - start
+    memory = resource.getrusage(resource.RUSAGE_CHILDREN).ru_maxrss // 1024
+    last = run.stdout.decode().splitlines()[-1:] or ["nothing"]
+    print("%-20s status %d, %s rows, %.3f s, %d MB" % (name, run.returncode, last[0].removeprefix("affected "), seconds, memory))
+
+
+timed(name, "compare", *words)
+if name.startswith("generated "):
+    timed("gen " + name.removeprefix("generated "), "gen", *name.split()[1:])
 run = subprocess.run(["crates/bench_compare/out/bench_compare", *words, "time"], stdout=subprocess.PIPE)
 for line in run.stdout.decode().splitlines():
     print("    " + line)
@@ -33,6 +46,7 @@ if [ $# -gt 0 ]; then
     exit
 fi
 for n in 50 100 200; do measure chain $n; done
+measure generated 7 200
 measure fabric 4 16
 measure fabric 16 64
 measure leaves 16 250
@@ -43,4 +57,7 @@ measure folders 1000
 for n in 1000 3000; do
     measure list $n 0
     measure list $n 20
+done
+for n in 50 100 200 400; do
+    for change in route list translation; do measure crossed $n $change; done
 done

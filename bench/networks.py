@@ -11,6 +11,9 @@
     networks.py folders FOLDER N          N devices of ten interfaces that have nothing to do with one another; nothing is changed
     networks.py list FOLDER N PERCENT     a device with a list of N generated entries, one of which is changed; of a hundred
                                           entries PERCENT have any source, and as many any destination
+    networks.py crossed FOLDER N CHANGE   two devices one behind the other, each with a list of N entries with ports told by `neq` and
+                                          ranges, flags by `match-any`, and wildcards with holes; CHANGE is `route` (one host's),
+                                          `list` (an entry of the second device) or `translation` (a rule is new)
 """
 import os
 import random
@@ -235,6 +238,53 @@ def folders(folder, n):
     write_links(folder, links + ["ingress R0 Ethernet0"])
 
 
+def crossed(folder, n, change):
+    random_ = random.Random(23)
+    lists = [[holed(random_) for _ in range(n)] for _ in range(2)]
+    for version in ("old", "new"):
+        is_new = version == "new"
+        first = ["interface Ethernet0", " ip address 192.168.0.1 255.255.255.0", " ip access-group 101 in", " ip nat outside"]
+        first += ["interface Ethernet1", " ip address 172.16.0.1 255.255.255.252", " ip nat inside"]
+        first += ["ip route 10.0.0.0 255.0.0.0 172.16.0.2"] + ["access-list 101 " + line for line in lists[0]]
+        first += ["access-list 101 permit ip any any"]
+        if is_new and change == "translation":
+            first.append("ip nat inside source static 10.9.9.9 192.168.0.99")
+        entries = lists[1][:]
+        if is_new and change == "list":
+            entries.insert(n // 5, "permit tcp host 10.1.2.3 host 10.9.9.9 range 1024 40000")
+        second = ["interface Ethernet0", " ip address 172.16.0.2 255.255.255.252", " ip access-group 102 in"]
+        second += ["interface Ethernet1", " ip address 172.16.0.5 255.255.255.252"]
+        second += ["access-list 102 " + line for line in entries] + ["access-list 102 permit ip any any"]
+        second += ["ip route 10.0.0.0 255.0.0.0 172.16.0.6"]
+        second += ["ip route 10.9.9.9 255.255.255.255 Null0"] if is_new and change == "route" else []
+        write(folder, version, {"R1": first, "R2": second})
+    write_links(folder, ["p2p R1 Ethernet1 R2 Ethernet0", "ingress R1 Ethernet0"])
+
+
+def holed(random_):
+    """An entry that cuts across most others."""
+
+    def address(any_part):
+        draw = random_.random()
+        if draw < any_part:
+            return "any"
+        wild = random_.choice((0x00FF00FF, 0x0000FFFE, 0x00FF0001, 0x000F0F0F, 0x0000FF00) if draw > 0.8 else (0xFFFF, 0xFFF, 0xFF))
+        return "%s %s" % (dotted((10 << 24 | random_.getrandbits(24)) & ~wild), dotted(wild))
+
+    def port():
+        draw = random_.random()
+        if draw < 0.35:
+            return " neq %d" % random_.randint(1, 65535)
+        if draw < 0.7:
+            low, high = sorted((random_.randint(1, 65535), random_.randint(1, 65535)))
+            return " range %d %d" % (low, high)
+        return ""
+
+    action = "permit" if random_.random() < 0.6 else "deny"
+    flags = random_.choice(("", "", "", " match-any +fin -psh", " match-any +syn -ack"))
+    return "%s tcp %s%s %s%s%s" % (action, address(0.25), port(), address(0.02), port(), flags)
+
+
 def entry(random_, percent):
     def address():
         if random_.random() * 100 < percent:
@@ -274,8 +324,8 @@ def one_list(folder, n, percent):
 def main():
     kind, folder, *numbers = sys.argv[1:]
     shapes = {"list": one_list}
-    shapes.update((shape.__name__, shape) for shape in (chain, fabric, leaves, layers, ring, device, folders))
-    shapes[kind](folder, *map(int, numbers))
+    shapes.update((shape.__name__, shape) for shape in (chain, fabric, leaves, layers, ring, device, folders, crossed))
+    shapes[kind](folder, *(int(word) if word.isdigit() else word for word in numbers))
 
 
 if __name__ == "__main__":

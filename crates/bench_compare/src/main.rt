@@ -1,32 +1,30 @@
-//! How many regions the comparison of two networks takes, and where its time goes.
+//! What the comparison of two networks holds after each of its stages, and where its time goes.
 //!
 //! The words are the folder of the old network, that of the new one, the link table, and `time` where the times are wanted
-//! too. It goes through the regions as the comparison does and counts, for all ingresses together, those that are given
-//! up since no header of theirs can meet a difference, those that are walked in both networks, and those of the walked whose
-//! labels differ.
+//! too. It goes through the stages as the comparison does: the networks are compiled; each place gets its ways; the
+//! headers that may meet a difference are found; and these are walked in both networks, from each ingress. Then the networks
+//! are compared as a whole, for the rows.
 //!
-//! In the networks of `data` the second router has lost a subnet of 24 bits. The other half of each of the 24 halvings that
-//! lead to it is given up, and the subnet is walked.
+//! In the networks of `data` the second router has lost a subnet of 24 bits, which is one row.
 #![tactic(auto)]
 
 ghost use Rattle.std.specs.Prelude.{◌≤◌, length};
 ghost use Rattle.net_load.specs.Numbering.{folder_names};
 ghost use Rattle.topo_links.specs.Table.{table_names};
 
-mod counts;
 mod reading;
+mod stages;
 
-use counts::{Compared, Counts};
-use difference_reach::Reach;
+use net_compare::compare;
 use net_io::RealFiles;
 use net_load::Numbered;
-use net_types::{Loaded, NoMemory, Place};
+use net_types::{Loaded, NoMemory, Section};
 use net_view::WorldRef;
 use reading::{is_right, loaded, number_few, table_of};
+use stages::{Clock, Stages, TTL, measure};
 use std::time::Instant;
 use std::{env, io};
 use topo_links::LinkTable;
-use transfer_rel::Prepared;
 
 // The words of the command line, without the program's name.
 fn words(rt: &HostRuntime) -> io::Result<Vec<String>> {
@@ -42,34 +40,54 @@ fn main(rt: HostRuntime) -> io::Result<()> {
     let [old, new, links, rest @ ..] = words.as_slice() else {
         return println!(rt; "two folders and a link table are wanted");
     };
-    measure(&rt, old, new, links, !rest.is_empty())
+    measure_files(&rt, old, new, links, !rest.is_empty())
 }
 
 // Reads the networks, prints the counts, and the times where they are wanted.
-fn measure(rt: &HostRuntime, old: &str, new: &str, links: &str, timed: bool) -> io::Result<()> {
+fn measure_files(
+    rt: &HostRuntime,
+    old: &str,
+    new: &str,
+    links: &str,
+    timed: bool,
+) -> io::Result<()> {
     let Some((numbered, reading)) = read_files(rt, old, new, links)? else {
         return println!(rt; "the networks can't be read");
     };
-    let times = measure_networks(rt, &numbered)?;
+    let stages = measure_networks(rt, &numbered)?;
+    let rows = measure_rows(rt, &numbered)?;
     if timed {
-        print_times(rt, reading, times)?;
+        print_times(rt, reading, &stages, rows)?;
     }
     Ok(())
 }
 
-fn print_times(rt: &HostRuntime, reading: ReadTimes, times: Times) -> io::Result<()> {
+fn print_times(
+    rt: &HostRuntime,
+    reading: ReadTimes,
+    stages: &Stages,
+    compared: u128,
+) -> io::Result<()> {
     let ReadTimes {
         loaded,
         checked,
         numbered,
     } = reading;
-    let Times {
-        compiled,
-        reached,
-        walked,
-    } = times;
+    let compiled = stages.compiled.end;
+    let ways = stages.with_ways.end.saturating_sub(compiled);
+    let reach = stages
+        .walks
+        .reached
+        .end
+        .saturating_sub(stages.with_ways.end);
+    let walks = stages
+        .walks
+        .walked
+        .end
+        .saturating_sub(stages.walks.reached.end);
     println!(rt; "load {loaded} us, check {checked} us, number {numbered} us")?;
-    println!(rt; "compile {compiled} us, reach {reached} us, walk {walked} us")
+    println!(rt; "compile {compiled} us, ways {ways} us, reach {reach} us, walks {walks} us")?;
+    println!(rt; "compare {compared} us")
 }
 
 // Microseconds: of reading the three texts, of checking the table, of numbering the names.
@@ -129,20 +147,12 @@ fn number_timed(
     Ok(Some((numbers, times)))
 }
 
-// Microseconds.
-#[derive(Clone, Copy)]
-struct Times {
-    compiled: u128,
-    reached: u128,
-    walked: u128,
-}
-
 fn out_of_memory(_: NoMemory) -> io::Error {
     io::Error::from(io::ErrorKind::OutOfMemory)
 }
 
-// Counts the regions, prints them and answers the times.
-fn measure_networks(rt: &HostRuntime, numbered: &Numbered) -> io::Result<Times> {
+// Goes through the stages and prints what there is.
+fn measure_networks(rt: &HostRuntime, numbered: &Numbered) -> io::Result<Stages> {
     let old = WorldRef {
         network: &numbered.old,
         links: &numbered.links,
@@ -152,54 +162,43 @@ fn measure_networks(rt: &HostRuntime, numbered: &Numbered) -> io::Result<Times> 
         links: &numbered.links,
     };
     let start = Instant::now(rt)?;
-    let prepared = Prepared::of(rt.alloc(), old, new).map_err(out_of_memory)?;
-    measure_prepared(rt, &start, &prepared, numbered.links.ingress.as_slice())
+    let clock = Clock { rt, start: &start };
+    let ingress = numbered.links.ingress.as_slice();
+    let stages = measure(clock, old, new, ingress).map_err(out_of_memory)?;
+    print_stages(rt, &stages)?;
+    Ok(stages)
 }
 
-// `start` is when the compiling began.
-fn measure_prepared<'a>(
-    rt: &HostRuntime,
-    start: &Instant,
-    prepared: &'a Prepared<'a>,
-    ingress: &[Place],
-) -> io::Result<Times> {
-    let compiled = start.elapsed(rt)?.as_micros();
+fn print_stages(rt: &HostRuntime, stages: &Stages) -> io::Result<()> {
+    let places = stages.ways.places;
+    let lists = stages.ways.lists;
+    let ways = stages.ways.ways;
+    let labels = stages.walks.labels;
+    let compiled = stages.compiled.nodes;
+    let with_ways = stages.with_ways.nodes;
+    let reached = stages.walks.reached.nodes;
+    let walked = stages.walks.walked.nodes;
+    println!(rt; "places {places} lists {lists} ways {ways}")?;
+    println!(rt; "nodes compiled {compiled} ways {with_ways} reach {reached} walks {walked}")?;
+    println!(rt; "labels {labels}")
+}
+
+// Compares the networks, prints how many rows there are, and answers the microseconds that it took.
+fn measure_rows(rt: &HostRuntime, numbered: &Numbered) -> io::Result<u128> {
     let start = Instant::now(rt)?;
-    let reach = Reach::of(rt.alloc(), prepared, ingress).map_err(out_of_memory)?;
-    let compared = Compared {
-        alloc: rt.alloc(),
-        prepared,
-        reach: &reach,
-    };
-    measure_reach(rt, compiled, &start, compared, ingress)
+    let old = &numbered.old;
+    let new = &numbered.new;
+    let compared = compare(rt.alloc(), old, new, &numbered.links, TTL);
+    let sections = compared.map_err(out_of_memory)?;
+    print_rows(rt, &start, &sections)
 }
 
-// `start` is when the reach began.
-fn measure_reach(
-    rt: &HostRuntime,
-    compiled: u128,
-    start: &Instant,
-    compared: Compared,
-    ingress: &[Place],
-) -> io::Result<Times> {
-    let reached = start.elapsed(rt)?.as_micros();
-    let start = Instant::now(rt)?;
-    let counts = compared.count(ingress).map_err(out_of_memory)?;
-    let walked = start.elapsed(rt)?.as_micros();
-    print_counts(rt, &counts)?;
-    Ok(Times {
-        compiled,
-        reached,
-        walked,
-    })
-}
-
-fn print_counts(rt: &HostRuntime, counts: &Counts) -> io::Result<()> {
-    let Counts {
-        given_up,
-        walked,
-        differing,
-    } = *counts;
-    let regions = given_up.saturating_add(walked);
-    println!(rt; "regions {regions} given up {given_up} walked {walked} differing {differing}")
+fn print_rows(rt: &HostRuntime, start: &Instant, sections: &[Section]) -> io::Result<u128> {
+    let time = start.elapsed(rt)?.as_micros();
+    let mut rows = 0usize;
+    for section in sections {
+        rows = rows.saturating_add(section.rows.as_slice().len());
+    }
+    println!(rt; "rows {rows}")?;
+    Ok(time)
 }

@@ -1,7 +1,8 @@
-pub mod Outside
-pub mod Regions
-pub mod Leading
-pub mod Kept
-pub mod Growing
-pub mod Surveys
-pub mod Closing
+pub mod DifferLemmas
+pub mod KeyLemmas
+pub mod SameLemmas
+pub mod OwnLemmas
+pub mod UsedLemmas
+pub mod GrowLemmas
+pub mod SweepLemmas
+pub mod ReachLemmas

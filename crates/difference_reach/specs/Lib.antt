@@ -1,4 +1,3 @@
-pub mod Ways
-pub mod Outlooks
-pub mod Growth
-pub mod Closed
+pub mod Differing
+pub mod Reaches
+pub mod Steps

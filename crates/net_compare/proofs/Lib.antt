@@ -1,3 +1,3 @@
 pub mod NumberLemmas
-pub mod DifferenceLemmas
-pub mod RegionLemmas
+pub mod RowLemmas
+pub mod IngressLemmas

@@ -1,4 +1,3 @@
-pub mod Differences
 pub mod Networks
 pub mod Numbers
-pub mod Regions
+pub mod Rows

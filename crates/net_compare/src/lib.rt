@@ -1,15 +1,15 @@
 //! The comparison of two networks: per ingress, the rows of the headers that the two treat differently.
 //!
-//! Which headers may meet a difference of the two networks is found first, once for each place. Then all headers together
-//! are the first region of an ingress. A region that meets no difference is given up at once, one of which a part may is
-//! halved there, and so is one in which some device on the way looks at an open bit; a region whose headers walk alike in
-//! both networks has one label in each. So the work is that of the change and its borders.
+//! Which headers may meet a difference of the two networks is found first, once for each place, as sets. From each ingress
+//! these headers alone are walked, all together, in both networks. So nothing is done cube by cube, and the work is
+//! that of the sets; the rows are read off the one function that gives a header its two labels where they differ.
 #![tactic(auto)]
 
 mod comparison;
-mod differences;
+mod ingress;
 mod label_pairs;
-mod regions;
+pub mod laws;
+mod rows;
 
-pub use comparison::compare;
-pub use differences::{Difference, rows};
+pub use comparison::{compare, compare_worlds};
+pub use laws::Affected;

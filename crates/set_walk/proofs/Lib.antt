@@ -1,6 +1,8 @@
 pub mod SetLemmas
 pub mod StampLemmas
 pub mod ToldLemmas
+pub mod ScopeLemmas
+pub mod FitLemmas
 pub mod NetLemmas
 pub mod LevelLemmas
 pub mod EndLemmas

@@ -1,4 +1,6 @@
 pub mod Sets
+pub mod Scopes
+pub mod Fits
 pub mod Ways
 pub mod Nets
 pub mod Told

@@ -3,22 +3,26 @@
 //!
 //! A set is a function of a table of [`Diagrams`](cube_diagram::Diagrams) that gives its members a value (Bryant, IEEE
 //! Transactions on Computers, 1986), so what many headers do alike is worked out once, however many cubes they are.
-//! The moves of each place are given with the sets of their headers; nothing here looks at a configuration.
+//! The moves of each place are given with the sets of their headers; nothing here looks at a configuration. They are given
+//! for the headers of a scope, a set that no walk leaves, and only such headers are walked.
 #![tactic(auto)]
 
 mod ends;
+mod fits;
+mod hash;
 mod levels;
 mod net;
 mod numbers;
 mod parts;
 pub mod sets;
 mod step;
-mod told;
+pub mod told;
 mod walk;
 
 pub use ends::OutcomeSet;
+pub use fits::keeps_headers;
 pub use levels::{first_level, next_level};
-pub use net::{Net, PlaceWays};
+pub use net::{Net, PlaceWays, ways_at};
 pub use numbers::{LabelNumbers, OutcomeList, label_numbers};
-pub use step::{Step, Way};
+pub use step::{Step, Way, same_step};
 pub use walk::labels;

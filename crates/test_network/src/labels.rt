@@ -3,7 +3,6 @@
 use crate::networks::{INGRESS, Networks, Plan, at};
 use crate::regions::{Pair, Walks, Wanted};
 use crate::tables::{cube_of, ip, web};
-use difference_reach::Reach;
 use hdr_bits::Header;
 use net_types::{Outcome, Place};
 use std::io;
@@ -50,8 +49,8 @@ fn dropped_or(ttl: u8, second: Outcome) -> Wanted {
     }
 }
 
-/// Prints for each case whether the header has the labels of the table, and of the regions of its cube how many there are,
-/// how many are known to meet no difference, by the region and by the functions of places, and how many are wrong.
+/// Prints for each case whether the header has the labels of the table, and of the regions of its cube how many there are
+/// and how many are wrong.
 pub(crate) fn show(rt: &HostRuntime) -> io::Result<()> {
     let host = ip(10, 0, 0, 9);
     let inside = ip(10, 0, 0, 5);
@@ -132,8 +131,7 @@ pub(crate) fn show(rt: &HostRuntime) -> io::Result<()> {
             labels: [one(2, expired), one(3, exit(at(1, 2), Some(inside)))],
             open: 3 << 48,
         },
-        // Of the second router's subnet one address is its own. What comes by the fourth router meets the change, and the
-        // functions of places, which don't tell ways apart, say so of all that the fourth router has lost.
+        // Of the second router's subnet one address is its own.
         Case {
             name: "lan, on by the second",
             plan: Plan::Lan,
@@ -207,24 +205,11 @@ fn show_case(rt: &HostRuntime, case: &Case) -> io::Result<()> {
 
 fn show_pair(rt: &HostRuntime, case: &Case, pair: Pair) -> io::Result<()> {
     match Prepared::of(rt.alloc(), pair.old, pair.new) {
-        Ok(prepared) => show_prepared(rt, case, pair, &prepared),
-        Err(_) => println!(rt; "no memory"),
-    }
-}
-
-fn show_prepared<'a>(
-    rt: &HostRuntime,
-    case: &Case,
-    pair: Pair<'a>,
-    prepared: &'a Prepared<'a>,
-) -> io::Result<()> {
-    match Reach::of(rt.alloc(), prepared, &[INGRESS]) {
-        Ok(reach) => show_regions(
+        Ok(prepared) => show_regions(
             rt,
             case,
             Walks {
-                prepared,
-                reach: &reach,
+                prepared: &prepared,
                 pair,
             },
         ),
@@ -243,10 +228,6 @@ fn show_regions(rt: &HostRuntime, case: &Case, walks: Walks) -> io::Result<()> {
     }
     let name = case.name;
     let regions = found.regions;
-    let apart = found.apart;
-    let far = found.far;
     let wrong = found.wrong;
-    println!(rt;
-        "{name}: labels {labels}, regions {regions}, apart {apart}, far {far}, wrong {wrong}"
-    )
+    println!(rt; "{name}: labels {labels}, regions {regions}, wrong {wrong}")
 }

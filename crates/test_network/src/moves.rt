@@ -36,6 +36,13 @@ pub(crate) fn show(rt: &HostRuntime) -> io::Result<()> {
     let to_router = web(host, ip(10, 0, 1, 1));
     let to_choices = web(host, ip(192, 168, 0, 7));
     let served = secure(ip(198, 51, 100, 2));
+    let on_lan = web(ip(10, 0, 0, 9), ip(10, 0, 5, 2));
+    let beyond = web(ip(10, 0, 0, 9), ip(10, 8, 0, 7));
+    let as_it_is = web(ip(10, 0, 0, 9), ip(198, 51, 100, 7));
+    let three_fields = Header {
+        src: ip(198, 51, 100, 7),
+        ..secure(ip(203, 0, 113, 5))
+    };
     let cases = [
         arriving(
             "out of the other interface",
@@ -71,6 +78,30 @@ pub(crate) fn show(rt: &HostRuntime) -> io::Result<()> {
             served,
         ),
         arriving("no such place", Plan::Office, at(7, 0), served),
+        arriving(
+            "to the next address of the destination that came",
+            Plan::OuterLan,
+            at(0, 0),
+            on_lan,
+        ),
+        arriving(
+            "the list sees the destination that leaves",
+            Plan::OuterLan,
+            at(0, 0),
+            beyond,
+        ),
+        arriving(
+            "no route for the destination that would leave",
+            Plan::OuterLan,
+            at(0, 0),
+            as_it_is,
+        ),
+        arriving(
+            "source and destination are translated",
+            Plan::OuterLan,
+            at(0, 1),
+            three_fields,
+        ),
     ];
     for case in &cases {
         let name = case.name;

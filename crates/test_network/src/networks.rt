@@ -2,8 +2,9 @@
 //! have the interfaces of each.
 
 use crate::texts::{
-    AT_EACH_OTHER, EQUAL_CHOICES, FOUR_ENDS, LONG_CHAIN, NO_WAY_BACK, OFFICE, SHUT_END,
-    STOPPED_CHOICE, THERE_AND_BACK, TRANSLATED_TWICE, TWO_LINKS,
+    AT_EACH_OTHER, END_UP, EQUAL_CHOICES, FOUR_ENDS, LONG_CHAIN, MOVED_END, NO_WAY_BACK, OFFICE,
+    OTHER_CHOICE, OUTER_RULES, SHUT_CHOICE, SHUT_END, STOPPED_CHOICE, THERE_AND_BACK,
+    TRANSLATED_ONCE, TRANSLATED_TWICE, TWO_LINKS,
 };
 use ios_config::read_config;
 use net_types::{Config, Links, List, NetDevice, Network, NoMemory, Place, Segment};
@@ -21,45 +22,58 @@ pub(crate) const INGRESS: Place = Place {
 pub(crate) enum Plan {
     /// Two routers, each with a default route by the other.
     Pair,
-    /// Two equal routes, by a router that passes some traffic, and by one that lacks the route.
+    /// Two equal routes, by a router that passes some traffic, in the new network other traffic, and by one that lacks the
+    /// route.
     Fan,
+    /// The same, and in the new network the router that lacks the route is shut down.
+    FarEnd,
     /// Two links in a circle, with translation there and back.
     Circle,
     /// A lan of four ends; in the new network the fourth doesn't send back.
     Lan,
+    /// The same lan; in the new network the second end has another address.
+    MovedEnd,
     /// A chain of as many routers as a packet with the TTL 255 passes, and one with the TTL 254 doesn't.
     Chain,
     /// One router with two links.
     TwoLinks,
     /// Two equal routes, one of them stopped by a list.
     StoppedChoice,
-    /// Two routers that translate, there and back.
+    /// Two routers that translate, there and back; in the new network only there.
     TranslatedTwice,
-    /// A lan whose other end is shut down.
+    /// A lan whose other end is shut down, in the new network up.
     ShutEnd,
     /// The router of an office.
     Office,
+    /// A lan of three ends; the first router translates hosts outside.
+    OuterLan,
 }
 
 impl Plan {
     fn old(self) -> &'static [&'static str] {
         match self {
             Plan::Pair => &AT_EACH_OTHER,
-            Plan::Fan => &EQUAL_CHOICES,
+            Plan::Fan | Plan::FarEnd => &EQUAL_CHOICES,
             Plan::Circle => &THERE_AND_BACK,
-            Plan::Lan => &FOUR_ENDS,
+            Plan::Lan | Plan::MovedEnd => &FOUR_ENDS,
             Plan::Chain => &LONG_CHAIN,
             Plan::TwoLinks => &TWO_LINKS,
             Plan::StoppedChoice => &STOPPED_CHOICE,
             Plan::TranslatedTwice => &TRANSLATED_TWICE,
             Plan::ShutEnd => &SHUT_END,
             Plan::Office => &OFFICE,
+            Plan::OuterLan => &OUTER_RULES,
         }
     }
 
     fn new(self) -> &'static [&'static str] {
         match self {
+            Plan::Fan => &OTHER_CHOICE,
+            Plan::FarEnd => &SHUT_CHOICE,
             Plan::Lan => &NO_WAY_BACK,
+            Plan::MovedEnd => &MOVED_END,
+            Plan::TranslatedTwice => &TRANSLATED_ONCE,
+            Plan::ShutEnd => &END_UP,
             _ => self.old(),
         }
     }
@@ -182,7 +196,7 @@ fn add_segments(alloc: Global, segments: &mut List<Segment>, plan: Plan) -> Resu
         Plan::Pair => add_chain(alloc, segments, 2),
         Plan::Chain => add_chain(alloc, segments, 254),
         Plan::TranslatedTwice => add_chain(alloc, segments, 2),
-        Plan::Fan => {
+        Plan::Fan | Plan::FarEnd => {
             add_p2p(alloc, segments, at(0, 1), at(1, 0))?;
             add_p2p(alloc, segments, at(0, 2), at(2, 0))
         }
@@ -190,11 +204,12 @@ fn add_segments(alloc: Global, segments: &mut List<Segment>, plan: Plan) -> Resu
             add_p2p(alloc, segments, at(0, 1), at(1, 1))?;
             add_p2p(alloc, segments, at(1, 0), at(0, 0))
         }
-        Plan::Lan => {
+        Plan::Lan | Plan::MovedEnd => {
             let ends = [at(0, 1), at(1, 0), at(2, 0), at(3, 0)];
             add(alloc, segments, true, &ends)
         }
         Plan::ShutEnd => add(alloc, segments, true, &[at(0, 1), at(1, 0)]),
+        Plan::OuterLan => add(alloc, segments, true, &[at(0, 1), at(1, 0), at(2, 0)]),
         _ => Ok(()),
     }
 }

@@ -2,12 +2,11 @@
 ghost use Rattle.std.specs.Prelude.{◌≤◌};
 
 use crate::networks::{INGRESS, Networks};
-use difference_reach::Reach;
 use hdr_bits::{Cube, Header};
 use net_types::Outcome;
 use net_view::WorldRef;
 use plain_rules::label;
-use region_walk::{Explored, Graph, Touch, explore, touch_of};
+use region_walk::{Explored, Graph, explore};
 use std::alloc::Global;
 use transfer_rel::{Prepared, Version};
 
@@ -19,12 +18,7 @@ const TTLS: [u8; 5] = [1, 2, 3, 254, 255];
 pub(crate) struct Found {
     /// The regions.
     pub(crate) regions: u32,
-    /// Those that are known to meet no difference of the two networks by a walk of the region.
-    pub(crate) apart: u32,
-    /// Those of which the functions of places say so.
-    pub(crate) far: u32,
-    /// Those of which a header has another label by the plain rules, or two labels that differ though the region is known to
-    /// meet no difference.
+    /// Those of which a header has another label by the plain rules.
     pub(crate) wrong: u32,
 }
 
@@ -85,24 +79,12 @@ impl<'a> Pair<'a> {
             Err(_) => false,
         }
     }
-
-    // Whether the plain rules give the header the same label in both networks.
-    fn stays(&self, header: &Header) -> bool {
-        match label(self.alloc, self.old, 255, INGRESS, header) {
-            Ok(old) => match label(self.alloc, self.new, 255, INGRESS, header) {
-                Ok(new) => old.same(&new),
-                Err(_) => false,
-            },
-            Err(_) => false,
-        }
-    }
 }
 
 /// Two networks, compiled.
 #[derive(Clone, Copy)]
 pub(crate) struct Walks<'a> {
     pub(crate) prepared: &'a Prepared<'a>,
-    pub(crate) reach: &'a Reach<'a>,
     pub(crate) pair: Pair<'a>,
 }
 
@@ -112,8 +94,6 @@ impl<'a> Walks<'a> {
     pub(crate) fn take_all(&self, cube: &Cube) -> Option<Found> {
         let mut found = Found {
             regions: 0,
-            apart: 0,
-            far: 0,
             wrong: 0,
         };
         let mut cubes = vec![in self.pair.alloc; *cube].ok()?;
@@ -156,21 +136,9 @@ impl<'a> Walks<'a> {
     }
 
     fn count(&self, graph: &Graph, cube: &Cube, found: &mut Found) {
-        let far = matches!(self.reach.touch_on(INGRESS, cube), Touch::Untouched);
-        let apart = self.is_apart(cube);
-        let stays = !far && !apart || self.pair.stays(&cube.least());
-        let agree = stays && self.all_agree(graph, cube);
+        let agree = self.all_agree(graph, cube);
         found.regions = found.regions.saturating_add(1);
-        found.apart = found.apart.saturating_add(u32::from(apart));
-        found.far = found.far.saturating_add(u32::from(far));
         found.wrong = found.wrong.saturating_add(u32::from(!agree));
-    }
-
-    fn is_apart(&self, cube: &Cube) -> bool {
-        matches!(
-            touch_of(self.pair.alloc, self.prepared, INGRESS, cube),
-            Ok(Touch::Untouched)
-        )
     }
 
     // Whether the least and the greatest header of the cube have the labels of the graph.

@@ -19,8 +19,7 @@ ip route 0.0.0.0 0.0.0.0 10.0.12.1
 
 // ---- two equal routes to 192.168.0.0/24: by a router that passes web traffic there, and by one that lacks it
 
-pub(crate) const EQUAL_CHOICES: [&str; 3] = [
-    "hostname R1
+const SENDS_BY_TWO: &str = "hostname R1
 interface Ethernet0
  ip address 10.0.0.1 255.255.255.0
 interface Ethernet1
@@ -29,20 +28,42 @@ interface Ethernet2
  ip address 10.0.13.1 255.255.255.252
 ip route 192.168.0.0 255.255.255.0 10.0.12.2
 ip route 192.168.0.0 255.255.255.0 10.0.13.2
-",
-    "hostname R2
+";
+
+const PASSES_WEB: &str = "hostname R2
 interface Ethernet0
  ip address 10.0.12.2 255.255.255.252
  ip access-group 101 in
 interface Ethernet1
  ip address 192.168.0.1 255.255.255.0
 access-list 101 permit tcp any any eq www
-",
-    "hostname R3
+";
+
+const LACKS_ROUTE: &str = "hostname R3
 interface Ethernet0
  ip address 10.0.13.2 255.255.255.252
-",
-];
+";
+
+pub(crate) const EQUAL_CHOICES: [&str; 3] = [SENDS_BY_TWO, PASSES_WEB, LACKS_ROUTE];
+
+const PASSES_SECURE: &str = "hostname R2
+interface Ethernet0
+ ip address 10.0.12.2 255.255.255.252
+ ip access-group 101 in
+interface Ethernet1
+ ip address 192.168.0.1 255.255.255.0
+access-list 101 permit tcp any any eq 443
+";
+
+const LACKS_ALL: &str = "hostname R3
+interface Ethernet0
+ ip address 10.0.13.2 255.255.255.252
+ shutdown
+";
+
+pub(crate) const OTHER_CHOICE: [&str; 3] = [SENDS_BY_TWO, PASSES_SECURE, LACKS_ROUTE];
+
+pub(crate) const SHUT_CHOICE: [&str; 3] = [SENDS_BY_TWO, PASSES_WEB, LACKS_ALL];
 
 // ---- two links in a circle: over the one the source 10.0.0.5 is translated to 203.0.113.5, and over the other, or on
 // the way out to 9.9.9.0/24, back
@@ -115,6 +136,20 @@ pub(crate) const FOUR_ENDS: [&str; 4] = [SENDS_BY_ALL, LEADS_ON, IS_SHUT, SENDS_
 
 pub(crate) const NO_WAY_BACK: [&str; 4] = [SENDS_BY_ALL, LEADS_ON, IS_SHUT, SENDS_NOWHERE];
 
+const LEADS_ON_FROM_ELSEWHERE: &str = "hostname R2
+interface Ethernet0
+ ip address 10.0.5.7 255.255.255.0
+interface Ethernet1
+ ip address 172.16.0.1 255.255.255.0
+";
+
+pub(crate) const MOVED_END: [&str; 4] = [
+    SENDS_BY_ALL,
+    LEADS_ON_FROM_ELSEWHERE,
+    IS_SHUT,
+    SENDS_BACK,
+];
+
 // ---- a router that passes everything on
 
 const PASSES_ON: &str = "hostname R
@@ -159,8 +194,7 @@ access-list 102 permit ip any any
 
 // ---- two routers, of which the first translates 10.0.0.5 to 203.0.113.5 on the way out, and the second back
 
-pub(crate) const TRANSLATED_TWICE: [&str; 2] = [
-    "hostname R1
+const TRANSLATES: &str = "hostname R1
 interface Ethernet0
  ip address 10.0.0.1 255.255.255.0
  ip access-group 1 in
@@ -171,8 +205,9 @@ interface Ethernet1
 ip nat inside source static 10.0.0.5 203.0.113.5
 ip route 10.9.0.0 255.255.255.252 10.0.12.2
 access-list 1 permit 10.0.0.0 0.0.0.255
-",
-    "hostname R2
+";
+
+const TRANSLATES_BACK: &str = "hostname R2
 interface Ethernet0
  ip address 10.0.12.2 255.255.255.252
  ip nat inside
@@ -180,24 +215,44 @@ interface Ethernet1
  ip address 10.9.0.1 255.255.255.252
  ip nat outside
 ip nat inside source static 203.0.113.5 10.0.0.5
-",
-];
+";
+
+pub(crate) const TRANSLATED_TWICE: [&str; 2] = [TRANSLATES, TRANSLATES_BACK];
+
+const TRANSLATES_NOT: &str = "hostname R2
+interface Ethernet0
+ ip address 10.0.12.2 255.255.255.252
+ ip nat inside
+interface Ethernet1
+ ip address 10.9.0.1 255.255.255.252
+ ip nat outside
+";
+
+pub(crate) const TRANSLATED_ONCE: [&str; 2] = [TRANSLATES, TRANSLATES_NOT];
 
 // ---- a lan whose other end is shut down
 
-pub(crate) const SHUT_END: [&str; 2] = [
-    "hostname R1
+const HAS_LAN: &str = "hostname R1
 interface Ethernet0
  ip address 10.0.0.1 255.255.255.0
 interface Ethernet1
  ip address 10.0.1.1 255.255.255.248
-",
-    "hostname R2
+";
+
+const SHUTS_END: &str = "hostname R2
 interface Ethernet0
  ip address 10.0.1.2 255.255.255.248
  shutdown
-",
-];
+";
+
+pub(crate) const SHUT_END: [&str; 2] = [HAS_LAN, SHUTS_END];
+
+const HAS_END: &str = "hostname R2
+interface Ethernet0
+ ip address 10.0.1.2 255.255.255.248
+";
+
+pub(crate) const END_UP: [&str; 2] = [HAS_LAN, HAS_END];
 
 // ---- the router of an office, with a server behind its one address
 
@@ -220,5 +275,35 @@ access-list 101 permit tcp any any established
 access-list 101 permit tcp any host 198.51.100.2 eq 443
 access-list 101 permit icmp any any echo-reply
 access-list 101 permit udp any host 198.51.100.2 eq isakmp
+",
+];
+
+// ---- a router that knows hosts outside by addresses of its own, on a lan with two others. One of these addresses is on the
+// lan itself, so that it is the next address
+
+pub(crate) const OUTER_RULES: [&str; 3] = [
+    "hostname R1
+interface Ethernet0
+ ip address 10.0.0.1 255.255.255.0
+ ip nat inside
+interface Ethernet1
+ ip address 10.0.5.1 255.255.255.0
+ ip access-group 101 out
+ ip nat outside
+ip nat inside source static tcp 10.0.0.5 80 203.0.113.5 443
+ip nat outside source static 10.0.5.3 10.0.5.2
+ip nat outside source static 198.51.100.7 10.8.0.7
+ip route 10.8.0.7 255.255.255.255 10.0.5.2
+access-list 101 deny ip any host 10.8.0.7
+access-list 101 permit ip any any
+",
+    "hostname R2
+interface Ethernet0
+ ip address 10.0.5.2 255.255.255.0
+ip route 203.0.113.5 255.255.255.255 10.0.5.1
+",
+    "hostname R3
+interface Ethernet0
+ ip address 10.0.5.3 255.255.255.0
 ",
 ];

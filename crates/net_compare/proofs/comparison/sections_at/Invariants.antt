@@ -1,7 +1,12 @@
 use Rattle.std.proofs.Common.{take}
 use Rattle.std.specs.List.{AllZip}
+use Rattle.cube_diagram.specs.Functions.{Keeps}
 use Rattle.net_types.specs.Report.{IsSection}
+use Rattle.net_view.specs.Borrowed.{world_of}
 use Rattle.net_compare.proofs.comparison.sections_at.Given as goal
 
 abbrev pub invariant-loop-place : goal.invariant-loop-place
-invariant-loop-place l = AllZip (IsSection l.prepared.old l.prepared.new l.ttl) (take l.place-index l.ingress) l.sections.items
+invariant-loop-place l = record {
+  kept : Keeps l.fn.table l.table;
+  sections : AllZip (IsSection (world_of l.fn.old.world) (world_of l.fn.new.world) l.fn.ttl) (take l.place-index l.ingress) l.sections.items;
+}

@@ -1,0 +1,4 @@
+pub mod Translated
+pub mod Differences
+pub mod Devices
+pub mod Pairs

@@ -1,0 +1,11 @@
+pub mod SetLemmas
+pub mod AddLemmas
+pub mod StampLemmas
+pub mod AmongLemmas
+pub mod RangeLemmas
+pub mod FateLemmas
+pub mod LinkLemmas
+pub mod LeaveLemmas
+pub mod ArriveLemmas
+pub mod BaseLemmas
+pub mod PlaceLemmas

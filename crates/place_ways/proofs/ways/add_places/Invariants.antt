@@ -1,0 +1,18 @@
+use Rattle.std.proofs.Common.{take}
+use Rattle.hdr_bits.specs.Lists.{Extends}
+use Rattle.indexmap.specs.IndexMap.{get}
+use Rattle.cube_diagram.specs.Functions.{Keeps}
+use Rattle.net_types.specs.World.{same_place}
+use Rattle.net_view.specs.Borrowed.{world_of}
+use Rattle.place_ways.specs.Places.{AreBasesOf, AreDone, AreRight, IsNumbered, LosesNone}
+use Rattle.place_ways.proofs.ways.add_places.Given as goal
+
+abbrev pub invariant-loop-number : goal.invariant-loop-number
+invariant-loop-number l = record {
+  kept : Keeps l.fn.table l.table;
+  lists : Extends l.fn.lists.items l.lists.items;
+  right : AreRight (world_of l.network.world) l.table l.scope l.lists.items (get same_place l.positions);
+  done : AreDone (world_of l.network.world) (get same_place l.positions) (IsNumbered l.name (take l.number-index l.numbers));
+  losing : LosesNone (get same_place l.fn.positions) (get same_place l.positions);
+  bases : AreBasesOf (world_of l.network.world) l.table l.scope l.lists.items l.name l.bases;
+}

@@ -1,0 +1,93 @@
+-- Ways that are added stage by stage, each with the set of the headers of which its move is made.
+use Rattle.std.specs.Prelude.{ℕ, ◌≡◌, ◌<◌, ◌+◌, ◌⊎◌, ◌↔◌, ◌==◌, List, Option, Some, None, Contains, if◌then◌else◌}
+use Rattle.std.specs.List.{list_any}
+use Rattle.hdr_bits.specs.declared.header.Header.{Header}
+use Rattle.hdr_bits.specs.HeaderBits.{number, IsHeader}
+use Rattle.cube_alg.specs.declared.stamp.Stamp.{Stamp}
+use Rattle.cube_alg.specs.Stamps.{applied, followed}
+use Rattle.cube_diagram.specs.Functions.{Functions, count_of, value_at}
+use Rattle.cube_diagram.specs.Images.{retold}
+use Rattle.link_sends.specs.declared.sent.Sent.{Sent}
+use Rattle.link_sends.specs.declared.sent.Sent.TheVariants as sent
+use Rattle.net_types.specs.declared.config.NatRule.{NatRule}
+use Rattle.net_types.specs.declared.network.Move.{Move}
+use Rattle.net_types.specs.declared.network.Place.{Place}
+use Rattle.net_types.specs.Translation.{from_outside}
+use Rattle.set_walk.specs.declared.step.Step.{Step}
+use Rattle.set_walk.specs.declared.step.Step.TheVariants as step
+use Rattle.set_walk.specs.declared.step.Way.{Way}
+use Rattle.set_walk.specs.Sets.{InSet}
+use Rattle.set_walk.specs.Ways.{HasMove, IsGiven}
+
+-- the ways' sets are in the table, and their stamps fit
+abbrev pub AreGiven : Functions → List Way → Type 0
+AreGiven fs ways = (x : Way) → Contains ways x → IsGiven fs x
+
+-- by the ways each header of the scope has exactly these moves
+abbrev pub HasMoves : (Header → List Move) → Functions → ℕ → List Way → Type 0
+HasMoves moves fs scope ways = (h : Header) → IsHeader h → InSet fs scope h → (m : Move) → Contains (moves h) m ↔ HasMove fs ways h m
+
+-- moves were added to those that headers have by the ways, and none was lost
+pub record AddsWays (old_fs new_fs : Functions) (more : Header → Move → Type 0) (old new : List Way) : Type 0 where
+  pub given : AreGiven new_fs new
+  pub exact : (h : Header) → IsHeader h → (m : Move) → HasMove new_fs new h m ↔ (HasMove old_fs old h m ⊎ more h m)
+
+-- headers of the set make this move
+abbrev pub Makes : Functions → ℕ → (Header → Move) → Header → Move → Type 0
+Makes fs set move h m = InSet fs set h × (move h ≡ m)
+
+-- headers of the set make these moves
+abbrev pub MakesAny : Functions → ℕ → (Header → List Move) → Header → Move → Type 0
+MakesAny fs set moves h m = InSet fs set h × Contains (moves h) m
+
+-- a header of the set is of the scope once it was translated from outside
+abbrev pub ComeWithin : List NatRule → Functions → ℕ → ℕ → Type 0
+ComeWithin nat fs set scope = (h : Header) → IsHeader h → InSet fs set h → InSet fs scope (from_outside nat h)
+
+-- headers of the set make the moves that others have by the ways, once the stamp was applied
+abbrev pub MakesBehind : Functions → ℕ → Stamp → List Way → Header → Move → Type 0
+MakesBehind fs set s ways h m = InSet fs set h × HasMove fs ways (applied s h) m
+
+-- the function gives the header this value
+abbrev pub HasValue : Functions → ℕ → ℕ → Header → Type 0
+HasValue fs function v h = value_at fs function (number h) ≡ Some v
+
+-- the header has one of these values
+pub record IsAmong (value : Header → Option ℕ) (values : List ℕ) (h : Header) : Type 0 where
+  pub one : ℕ
+  pub among : Contains values one
+  pub has : value h ≡ Some one
+
+-- the part gives a header how far the value that the function gives it is from the first of these values, as many as counted,
+-- and nothing where it is none of them
+pub record IsRange (fs : Functions) (function first count : ℕ) (gs : Functions) (part : ℕ) : Type 0 where
+  pub below : part < count_of gs
+  pub exact : (n v : ℕ) → (value_at gs part n ≡ Some v) ↔ ((v < count) × (value_at fs function n ≡ Some (first + v)))
+
+-- the part gives a header only how far the value that the function gives it is from the first of these values, as many as counted
+pub record IsInRange (fs : Functions) (function first count : ℕ) (gs : Functions) (part : ℕ) : Type 0 where
+  pub below : part < count_of gs
+  pub tells : (n v : ℕ) → value_at gs part n ≡ Some v → (v < count) × (value_at fs function n ≡ Some (first + v))
+
+-- the list tells of each of these values how far it is from the first, and nothing of others
+abbrev pub TellsRange : ℕ → ℕ → List (Option ℕ) → Type 0
+TellsRange first count told = (u v : ℕ) → (retold told (Some u) ≡ Some v) ↔ ((v < count) × (u ≡ first + v))
+
+-- the function gives a header its destination where it is one of the addresses, else nothing
+pub record TellsAddresses (fs : Functions) (addresses : List ℕ) (function : ℕ) : Type 0 where
+  pub below : function < count_of fs
+  pub exact : (h : Header) → IsHeader h → value_at fs function (number h) ≡ (if list_any (λ a. h.dst == a) addresses then Some h.dst else None)
+
+-- the step of headers that the stamp made
+abbrev pub after : Stamp → Step → Step
+after s step.Drop = step.Drop
+after s (step.Local p) = step.Local p
+after s step.Lost = step.Lost
+after s (step.Exit p t) = step.Exit p (followed s t)
+after s (step.Go p t) = step.Go p (followed s t)
+
+-- the step of packets that are sent with the stamp
+abbrev pub stamped_step : Place → Stamp → Sent → Step
+stamped_step e s sent.Exit = step.Exit e s
+stamped_step e s (sent.Go q) = step.Go q s
+stamped_step e s sent.Lost = step.Lost

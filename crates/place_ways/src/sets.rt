@@ -1,0 +1,52 @@
+//! Sets of headers, as functions that give a value to their members.
+
+ghost use Rattle.std.specs.Prelude.{◌≡◌, ◌<◌, Some, IfOk};
+ghost use Rattle.hdr_bits.specs.HeaderBits.{number};
+ghost use Rattle.cube_alg.specs.Stamps.{applied};
+ghost use Rattle.cube_diagram.specs.Functions.{Keeps, count_of, value_at};
+ghost use Rattle.set_walk.specs.Sets.{InSet, IsSetOf};
+
+use cube_alg::Stamp;
+use cube_diagram::Diagrams;
+use net_types::NoMemory;
+pub(crate) use set_walk::sets::{before_stamp, both, either, without};
+use std::alloc::Global;
+
+/// The given headers to which the function gives this value.
+pub(crate) fn where_value(
+    table: &mut Diagrams,
+    function: u32,
+    value: u32,
+    given: u32,
+) -> Result<u32, NoMemory>
+    requires function { function < count_of table.old }
+    requires given { given < count_of table.old }
+    ensures below { IfOk result (λ r. r < count_of table.new) }
+    ensures exact { IfOk result (λ r. IsSetOf table.new r (λ h. InSet table.old given h × (value_at table.old function (number h) ≡ Some value))) }
+    ensures kept { Keeps table.old table.new }
+{
+    let marked = table.with_value(function, value)?;
+    let set = both(table, given, marked)?;
+    Ok(set)
+}
+
+/// The given headers to which the function gives this value once the stamp was applied.
+pub(crate) fn where_value_after(
+    alloc: Global,
+    table: &mut Diagrams,
+    function: u32,
+    value: u32,
+    stamp: &Stamp,
+    given: u32,
+) -> Result<u32, NoMemory>
+    requires function { function < count_of table.old }
+    requires given { given < count_of table.old }
+    ensures below { IfOk result (λ r. r < count_of table.new) }
+    ensures exact { IfOk result (λ r. IsSetOf table.new r (λ h. InSet table.old given h × (value_at table.old function (number (applied stamp.now h)) ≡ Some value))) }
+    ensures kept { Keeps table.old table.new }
+{
+    let marked = table.with_value(function, value)?;
+    let before = before_stamp(alloc, table, marked, stamp)?;
+    let set = both(table, given, before)?;
+    Ok(set)
+}
