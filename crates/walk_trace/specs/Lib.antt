@@ -1,0 +1,5 @@
+pub mod Numbered
+pub mod Traced
+pub mod Keys
+pub mod Outcomes
+pub mod TraceText

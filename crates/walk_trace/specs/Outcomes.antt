@@ -1,0 +1,27 @@
+-- The outcomes of the moves of states, as they are gathered for a label.
+use Rattle.std.specs.Prelude.{◌↔◌, ◌<◌, ℕ, Bool, List, Option, Contains, filter_map, option_map}
+use Rattle.hdr_bits.specs.declared.header.Header.{Header}
+use Rattle.net_types.specs.declared.label.Outcome.{Outcome}
+use Rattle.net_types.specs.declared.network.Move.{Move}
+use Rattle.net_types.specs.declared.network.State.{State}
+use Rattle.net_types.specs.World.{World}
+use Rattle.net_types.specs.Walks.{IsWalk, end_of, outcome_of}
+use Rattle.walk_trace.specs.Numbered.{ordered_moves}
+
+-- the outcome of the end by this move, if it ends the walk
+abbrev pub outcome_by : Header → Bool → Move → Option Outcome
+outcome_by g last m = option_map (outcome_of g) (end_of last m)
+
+-- the outcomes of the ends by the moves of a state
+abbrev pub outcomes_at : World → Bool → Header → State → List Outcome
+outcomes_at w last g u = filter_map (outcome_by g last) (ordered_moves w u)
+
+-- two lists have the same items
+abbrev pub SameSet : {A : Type 0} → List A → List A → Type 0
+SameSet {A} xs ys = (x : A) → Contains xs x ↔ Contains ys x
+
+-- a walk of fewer than t moves leads from one state to the other
+pub record HasWalkBelow (w : World) (t : ℕ) (s u : State) : Type 0 where
+  pub count : ℕ
+  pub within : count < t
+  pub walk : IsWalk w count s u

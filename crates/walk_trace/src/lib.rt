@@ -1,0 +1,19 @@
+//! A single packet with reasons: the states that its walks reach, what each device on the way does with it and by which list,
+//! rule and route, and the outcome.
+#![tactic(auto)]
+
+mod device;
+pub mod laws;
+mod numbers;
+mod outcomes;
+mod site;
+mod states;
+mod text;
+mod told;
+mod traced;
+mod translation;
+mod types;
+
+pub use text::trace_bytes;
+pub use traced::trace;
+pub use types::{Trace, TraceChoice, TraceEnd, TraceFate, TraceState};
