@@ -1,5 +1,7 @@
 #!/usr/bin/env python3
-"""Writes a small random network and a changed one: two folders of configurations and a link table.
+"""Writes a small random network and a changed one: two folders of configurations, a link table `links`, a changed table
+`newlinks`, a TTL in the file `ttl`, and in the file `packets` some packets of the first network, in each line the place where one
+enters, its header and a TTL.
 
     random_networks.py FOLDER SEED
 """
@@ -27,6 +29,12 @@ class Maker:
         self.random = random.Random(seed)
         self.addresses = []
         self.links = []
+        self.outer = None
+        # Whether hosts of the first router reach hosts behind the second one by outer rules of both.
+        self.there_and_back = self.chance(0.17)
+        # How many of its routers translate, and whether their sides lead from the first router's hosts to the others'.
+        self.translating = 1 if self.there_and_back else self.pick(0.1, 0.1, 0.9)
+        self.leads_on = self.there_and_back or self.chance(0.5)
 
     def pick(self, *items):
         return self.random.choice(items)
@@ -36,22 +44,31 @@ class Maker:
 
     def network(self):
         """The devices, each a list of sections, and the link table."""
-        count = self.pick(1, 2, 2, 3, 3, 4)
+        count = 2 if self.there_and_back else self.pick(1, 2, 2, 3, 3, 4)
         devices = {"R%d" % (k + 1): {} for k in range(count)}
         subnets = SUBNETS[:]
         self.random.shuffle(subnets)
-        free = list(devices)
-        if count >= 3 and self.chance(0.5):
-            self.connect(devices, subnets, list(devices)[: self.pick(3, count)], "lan")
-        for a, b in zip(free, free[1:]):
-            if self.chance(0.8):
-                self.connect(devices, subnets, [a, b], self.pick("p2p", "p2p", "lan"))
+        if self.there_and_back:
+            self.connect(devices, subnets, list(devices), "p2p")
+        else:
+            self.connect_some(devices, subnets)
         for name in devices:
             self.connect(devices, subnets, [name], "")
-        for name, interfaces in devices.items():
-            self.links.append("ingress %s %s" % (name, self.random.choice(list(interfaces))))
+        if self.there_and_back:
+            self.links.append("ingress R1 Ethernet1")
+        else:
+            for name, interfaces in devices.items():
+                self.links.append("ingress %s %s" % (name, self.random.choice(list(interfaces))))
         self.random.shuffle(self.links)
         return {name: self.device(name, interfaces) for name, interfaces in devices.items()}
+
+    def connect_some(self, devices, subnets):
+        names = list(devices)
+        if len(names) >= 3 and self.chance(0.5):
+            self.connect(devices, subnets, names[: self.pick(3, len(names))], "lan")
+        for a, b in zip(names, names[1:]):
+            if self.chance(0.8):
+                self.connect(devices, subnets, [a, b], self.pick("p2p", "p2p", "lan"))
 
     def connect(self, devices, subnets, names, kind):
         if not subnets:
@@ -79,26 +96,36 @@ class Maker:
 
     def device(self, name, interfaces):
         sections = []
-        lists = self.random.sample(["101", "A", "7"], self.pick(0, 1, 1, 2))
-        sides = self.chance(0.35)
+        lists = self.random.sample(["101", "A", "7"], self.pick(0, 0, 1) if self.there_and_back else self.pick(0, 1, 1, 2))
+        sides = self.chance(self.translating)
         for interface, lines in interfaces.items():
             if self.chance(0.1):
                 lines.append(" ip address %s 255.255.255.255 secondary" % self.pick("192.168.0.1", "192.168.0.2", "10.9.9.9"))
             if lists and self.chance(0.35):
                 lines.append(" ip access-group %s %s" % (self.random.choice(lists + ["NONE"]), self.pick("in", "in", "out")))
             if sides:
-                lines.append(" ip nat %s" % self.pick("inside", "outside"))
+                lines.append(" ip nat %s" % self.side(name, interface))
             if self.chance(0.07):
                 lines.append(" shutdown")
             sections.append(["interface " + interface] + lines)
         for _ in range(self.pick(0, 1, 2, 3)):
             sections.append([self.route(list(interfaces))])
         if sides:
-            for _ in range(self.pick(1, 1, 2)):
+            for _ in range(self.pick(0, 0, 1) if self.there_and_back else self.pick(1, 1, 2)):
                 sections.append([self.translation()])
+            if self.there_and_back or self.chance(0.7):
+                sections.append([self.outer_translation()])
+                if self.there_and_back or self.chance(0.6):
+                    onward = "Ethernet0" if name == "R1" else list(interfaces)[-1]
+                    sections += [["ip route %s 255.255.255.255 %s" % (address, onward)] for address in self.outer]
         for one in lists:
             sections += self.access_list(one)
         return sections
+
+    def side(self, name, interface):
+        if self.leads_on:
+            return "inside" if (name == "R1") != (interface == "Ethernet0") else "outside"
+        return self.pick("inside", "outside")
 
     def route(self, interfaces):
         exit_ = self.pick("Null0", self.address(), self.address(), self.random.choice(interfaces), self.random.choice(interfaces) + " " + self.address())
@@ -108,6 +135,14 @@ class Maker:
         if self.chance(0.5):
             return "ip nat inside source static %s %s" % (self.address(), self.pick("203.0.113.5", "203.0.113.6", self.address()))
         return "ip nat inside source static %s %s %d %s %d" % (self.pick("tcp", "udp"), self.address(), self.pick(80, 443), self.pick("203.0.113.5", self.address()), self.pick(80, 8080))
+
+    def outer_translation(self):
+        """A rule for a host outside. Mostly its addresses are those of the last such rule, the other way round: so two routers
+        can translate there and back."""
+        if self.outer is None or not self.there_and_back and self.chance(0.2):
+            self.outer = self.pick("198.51.100.7", self.address(), self.address()), self.pick("10.8.0.7", self.address(), self.address())
+        self.outer = self.outer[::-1]
+        return "ip nat outside source static %s %s" % self.outer
 
     def access_list(self, name):
         if name == "7":
@@ -163,6 +198,64 @@ class Maker:
         else:
             sections.append([self.route([section[0].split()[1] for section in interfaces])])
 
+    def changed_links(self, devices):
+        """A copy of the link table with one to three changes. Each end stays on one segment at most, and an ingress is left."""
+        places = ["%s %s" % (name, section[0].split()[1]) for name, sections in devices.items() for section in sections if section[0].startswith("interface")]
+        links = self.links[:]
+        for _ in range(self.pick(1, 1, 2, 3)):
+            self.change_links(links, places)
+        return links
+
+    def change_links(self, links, places):
+        segments = [k for k, line in enumerate(links) if not line.startswith("ingress")]
+        ingresses = [k for k, line in enumerate(links) if line.startswith("ingress")]
+        on_segments = {place for k in segments for place in ends_of(links[k])}
+        free = [place for place in places if place not in on_segments]
+        kind = self.pick("kind", "kind", "cut", "move", "new", "enter", "enter", "leave")
+        if kind == "kind" and segments:
+            k = self.random.choice(segments)
+            ends = ends_of(links[k])
+            links[k] = " ".join([self.pick("p2p", "lan") if len(ends) == 2 else "lan"] + ends)
+        elif kind == "cut" and segments:
+            del links[self.random.choice(segments)]
+        elif kind == "move" and segments and free:
+            k = self.random.choice(segments)
+            ends = ends_of(links[k])
+            ends[self.random.randrange(len(ends))] = self.random.choice(free)
+            links[k] = " ".join([links[k].split()[0]] + ends)
+        elif kind == "new" and len(free) > 1:
+            links.append(" ".join([self.pick("p2p", "lan")] + self.random.sample(free, 2)))
+        elif kind == "enter":
+            line = "ingress " + self.random.choice(places)
+            if line not in links:
+                links.insert(self.random.randrange(len(links) + 1), line)
+        elif kind == "leave" and len(ingresses) > 1:
+            del links[self.random.choice(ingresses)]
+
+    def packet(self, devices):
+        """A place, mostly an ingress of the network, a header, mostly of addresses that matter in it, and a TTL."""
+        ingresses = [ends_of(line)[0] for line in self.links if line.startswith("ingress")]
+        places = ["%s %s" % (name, section[0].split()[1]) for name, sections in devices.items() for section in sections if section[0].startswith("interface")]
+        place = self.random.choice(ingresses if self.chance(0.85) else places + ["R1 Ethernet9", "R9 Ethernet0"])
+        lines = [line for sections in devices.values() for section in sections for line in section if line.startswith(("ip nat", "ip route"))]
+        known = [word for line in lines for word in line.split() if word.count(".") == 3 and not word.startswith(("0.", "255."))] + self.addresses
+        subnets = [line.split() for sections in devices.values() for section in sections for line in section if line.startswith(" ip address")]
+        known += [dotted(number(words[2]) | number("255.255.255.255") ^ number(words[3])) for words in subnets]
+        source, destination = [self.random.choice(known) if self.chance(0.8) else self.address() for _ in range(2)]
+        protocol = self.pick(6, 6, 17, 1, 50)
+        ports = [self.pick(80, 80, 443, 8080, 1024) if protocol in (6, 17) else 0 for _ in range(2)]
+        if protocol == 1:
+            ports[1] = self.pick(2048, 0, 769, 768)
+        return "%s %s,%s,%d,%d,%d,%d --ttl %d" % (place, destination, source, protocol, *ports, self.pick(0, 2, 16, 18), self.ttl())
+
+    def ttl(self):
+        return self.pick(255, 255, 1, 2, 3, 4, 5, self.random.randint(1, 255))
+
+
+def ends_of(line):
+    words = line.split()
+    return [" ".join(pair) for pair in zip(words[1::2], words[2::2])]
+
 
 def write(folder, version, devices):
     path = os.path.join(folder, version)
@@ -180,8 +273,15 @@ def main():
     devices = maker.network()
     write(folder, "old", devices)
     write(folder, "new", maker.changed(devices))
-    with open(os.path.join(folder, "links"), "w") as file:
-        file.write("".join(line + "\n" for line in maker.links))
+    write_lines(folder, "links", maker.links)
+    write_lines(folder, "newlinks", maker.changed_links(devices))
+    write_lines(folder, "ttl", [str(maker.ttl())])
+    write_lines(folder, "packets", [maker.packet(devices) for _ in range(4)])
+
+
+def write_lines(folder, name, lines):
+    with open(os.path.join(folder, name), "w") as file:
+        file.write("".join(line + "\n" for line in lines))
 
 
 if __name__ == "__main__":

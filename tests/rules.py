@@ -1,11 +1,13 @@
 #!/usr/bin/env python3
-"""The comparison of two networks once more, from the rules of docs/DEFINITIONS.md alone: a second opinion for tests.
+"""The comparison of two networks, and the trace of a packet, once more from the rules of docs/DEFINITIONS.md alone: a second
+opinion for tests.
 
-    rules.py OLD NEW LINKS [TTL]
+    rules.py OLD NEW LINKS [NEWLINKS] [--ttl T]
+    rules.py trace NET LINKS DEVICE INTERFACE HEADER [--ttl T]
 
-It prints the report that the program must print. It shares no code with the program, takes the networks as accepted (it
-refuses nothing), and is slow: a set of headers is halved at the first bit that a rule asks for, until all its headers are
-treated alike.
+It prints what the program must print for `compare` with these words, or for `trace`. It shares no code with the program, takes
+the networks as accepted (it refuses nothing), and is slow: a set of headers is halved at the first bit that a rule asks for,
+until all its headers are treated alike.
 """
 import os
 import sys
@@ -249,6 +251,7 @@ class Device:
         self.routes = []
         self.lists = {}
         self.rules = []
+        self.outer_rules = []
         self.section = None
         delimiter = None
         for line in text.split("\n"):
@@ -283,6 +286,8 @@ class Device:
             self.read_route(words[2:])
         elif words[:5] == ["ip", "nat", "inside", "source", "static"]:
             self.read_rule([word for word in words[5:] if word != "extendable"])
+        elif words[:5] == ["ip", "nat", "outside", "source", "static"]:
+            self.outer_rules.append((address_of(words[5]), address_of(words[6])))
         return None
 
     def read_inner(self, words):
@@ -365,12 +370,17 @@ class Device:
     def is_enabled(self, name):
         return name in self.interfaces and bool(self.interfaces[name].live())
 
-    def passes(self, name, headers):
+    def verdict(self, name, headers):
+        """What the list says, as the trace tells it: None where everything is passed."""
         _, entries = self.lists.get(name, (None, {}))
         for sequence in sorted(entries):
             if entries[sequence].matches(headers):
-                return entries[sequence].permit
-        return not entries
+                return "permit" if entries[sequence].permit else "deny", sequence
+        return ("deny", "end") if entries else None
+
+    def passes(self, name, headers):
+        verdict = self.verdict(name, headers)
+        return verdict is None or verdict[0] == "permit"
 
     def hops(self, headers, address, depth):
         """Pairs of an interface and a next hop; None for a discard, and None as next hop for the packet's own destination."""
@@ -394,22 +404,42 @@ class Device:
                 hops |= {hop if hop is None or hop[1] is not None else (hop[0], next_hop) for hop in self.hops(headers, next_hop, depth - 1)}
         return hops
 
-    def translated(self, headers, sides, address, port):
-        """The headers after the first rule that matches: port rules before plain ones."""
+    def written(self, headers, sides, address, port):
+        """The address and the port that the first rule that matches writes, port rules before plain ones: a plain rule writes no
+        port, and None is where no rule matches."""
         here, there = sides
         for rule in self.rules:
             if rule[0] is not None and headers.equals("proto", rule[0]) and headers.equals(address, rule[here]) and headers.equals(port, rule[here + 1]):
-                return headers.replaced(address, rule[there]).replaced(port, rule[there + 1])
+                return rule[there], rule[there + 1]
         for rule in self.rules:
             if rule[0] is None and headers.equals(address, rule[here]):
-                return headers.replaced(address, rule[there])
-        return headers
+                return rule[there], None
+        return None
+
+    def translated(self, headers, sides, address, port):
+        """The headers after the first rule that matches."""
+        written = self.written(headers, sides, address, port)
+        if written is None:
+            return headers
+        headers = headers.replaced(address, written[0])
+        return headers if written[1] is None else headers.replaced(port, written[1])
+
+    def outer_address(self, headers, field, here, there):
+        """What the first outer rule that matches writes: None where none does."""
+        for rule in self.outer_rules:
+            if headers.equals(field, rule[here]):
+                return rule[there]
+        return None
 
     def from_outside(self, headers):
-        return self.translated(headers, (3, 1), "dst", "dport")
+        source = self.outer_address(headers, "src", 0, 1)
+        headers = self.translated(headers, (3, 1), "dst", "dport")
+        return headers if source is None else headers.replaced("src", source)
 
     def from_inside(self, headers):
-        return self.translated(headers, (1, 3), "src", "sport")
+        destination = self.outer_address(headers, "dst", 1, 0)
+        headers = self.translated(headers, (1, 3), "src", "sport")
+        return headers if destination is None else headers.replaced("dst", destination)
 
 
 # ---- networks
@@ -458,13 +488,15 @@ class Network:
             return ("drop",)
         name, next_hop = hop
         out = device.interfaces[name]
+        sent = headers
         if interface.side == "inside" and out.side == "outside":
-            headers = device.from_inside(headers)
-        if not device.passes(out.lists.get("out"), headers):
+            sent = device.from_inside(headers)
+        if not device.passes(out.lists.get("out"), sent):
             return ("lost",)
-        return self.send((device.name, name), next_hop, headers)
+        return self.send((device.name, name), next_hop, headers, sent)
 
-    def send(self, place, next_hop, headers):
+    def send(self, place, next_hop, looked_up, headers):
+        """Sends the headers to the next hop; without one, to the destination that was looked up."""
         if place not in self.segments:
             return ("exit", place, headers)
         kind, ends = self.segments[place]
@@ -477,7 +509,7 @@ class Network:
             if interface is None or bool(interface.live()) != enabled:
                 return False
             addresses = [address for address, _ in interface.subnets()]
-            return next_hop in addresses if next_hop is not None else any(headers.equals("dst", address) for address in addresses)
+            return next_hop in addresses if next_hop is not None else any(looked_up.equals("dst", address) for address in addresses)
 
         for end in others:
             if has_next_address(end, True):
@@ -487,9 +519,13 @@ class Network:
         return ("exit", place, headers)
 
     def label(self, place, start, ttl):
-        """The outcomes of these headers, in order: all walks at once, move by move."""
-        states, outcomes = {(place, start.key())}, set()
-        for count in range(ttl):
+        """The outcomes of these headers, in order: all walks at once, move by move. What was met before is met again after as
+        many moves as it took, so whole rounds of it are passed over."""
+        states, outcomes, met, count = {(place, start.key())}, set(), {}, 0
+        while states and count < ttl:
+            first = met.setdefault(frozenset(states), count)
+            if first < count:
+                count += (ttl - 1 - count) // (count - first) * (count - first)
             after = set()
             for here, key in states:
                 for move in self.moves(here, Headers(*key)):
@@ -506,9 +542,99 @@ class Network:
                     else:
                         after.add((move[1], move[2].key()))
             states = after
-            if not states:
-                break
+            count += 1
         return tuple(sorted(outcomes, key=in_order))
+
+
+    # ---- traces
+
+    def choices(self, place, headers):
+        """The choices of a lookup in order: a discard, which is None, then pairs of an interface and a next address."""
+        device = self.devices[place[0]]
+        destination = headers.field("dst")[1]
+        hops = {hop if hop is None else (hop[0], destination if hop[1] is None else hop[1]) for hop in device.hops(headers, None, device.route_count)}
+        return sorted(hops, key=lambda hop: (hop is not None, hop and (hop[0].encode(), hop[1])))
+
+    def trace(self, place, header, ttl):
+        """The lines of a trace. States are numbered in the order in which they are found, each stepped in turn."""
+        order, moves = [(place, header.key())], {(place, header.key()): 0}
+        for state in order:
+            if moves[state] < ttl - 1:
+                for move in self.moves_in_order(*state):
+                    found = move[0] == "go" and (move[1], move[2].key())
+                    if found and found not in moves:
+                        moves[found] = moves[state] + 1
+                        order.append(found)
+        numbers = {state: k for k, state in enumerate(order, 1)}
+        lines = [line for state in order for line in self.state_lines(state, numbers, header)]
+        return lines + ["outcome " + label_text(self.label(place, header, ttl))]
+
+    def moves_in_order(self, place, key):
+        headers = Headers(*key)
+        moves = self.moves(place, headers)
+        if len(moves) == 1:
+            return moves
+        device, interface = self.devices[place[0]], self.interface(place)
+        if interface.side == "outside":
+            headers = device.from_outside(headers)
+        return [self.leave(device, interface, headers, hop) for hop in self.choices(place, headers)]
+
+    def state_lines(self, state, numbers, first):
+        place, headers = state[0], Headers(*state[1])
+        lines = ["state %d at %s %s %s" % (numbers[state], *place, header_text(headers))]
+        device, interface = self.devices.get(place[0]), self.interface(place)
+        if interface is None or not interface.live():
+            return lines + ["closed"]
+        lines.append(list_line("input", interface.lists.get("in"), device.verdict(interface.lists.get("in"), headers)))
+        if not device.passes(interface.lists.get("in"), headers):
+            return lines
+        if interface.side == "outside":
+            lines += nat_lines("dst", "dport", device.written(headers, (3, 1), "dst", "dport"))
+            lines += nat_lines("src", None, (device.outer_address(headers, "src", 0, 1), None))
+            headers = device.from_outside(headers)
+        destination = headers.field("dst")[1]
+        subnets = [(name, *subnet) for name, other in device.interfaces.items() for subnet in other.live()]
+        if destination >> 29 == 7 or any(length <= 30 and destination == address | ~first_bits(length) & ALL_ONES for _, address, length in subnets):
+            return lines + ["broadcast"]
+        own = [name for name, address, _ in subnets if address == destination]
+        if own:
+            return lines + ["local %s %s" % (place[0], own[0])]
+        for hop in self.choices(place, headers):
+            lines += self.choice_lines(device, interface, headers, hop, numbers, first)
+        return lines
+
+    def choice_lines(self, device, interface, headers, hop, numbers, first):
+        if hop is None:
+            return ["discard"]
+        name, address = hop
+        out = device.interfaces[name]
+        lines = ["out %s next %s" % (name, dotted(address))]
+        sent = headers
+        if interface.side == "inside" and out.side == "outside":
+            lines += nat_lines("src", "sport", device.written(headers, (1, 3), "src", "sport"))
+            lines += nat_lines("dst", None, (device.outer_address(headers, "dst", 1, 0), None))
+            sent = device.from_inside(headers)
+        lines.append(list_line("output", out.lists.get("out"), device.verdict(out.lists.get("out"), sent)))
+        if not device.passes(out.lists.get("out"), sent):
+            return lines
+        move = self.send((device.name, name), address, headers, sent)
+        if move[0] == "exit":
+            return lines + [outcome_text((3, move[1], changes(first, move[2])))]
+        if move[0] == "go":
+            return lines + ["go %s" % numbers.get((move[1], move[2].key()), "-")]
+        return lines + ["lost"]
+
+
+def list_line(word, name, verdict):
+    return word + " none" if verdict is None else "%s %s %s %s" % (word, name, *verdict)
+
+
+def nat_lines(field, port_field, written):
+    """The line of a rule that matched."""
+    if written is None or written[0] is None:
+        return []
+    line = "nat %s %s" % (field, dotted(written[0]))
+    return [line if written[1] is None else "%s %s %d" % (line, port_field, written[1])]
 
 
 def changes(start, last):
@@ -618,21 +744,48 @@ def load(folder):
     return [Device(open(os.path.join(folder, name)).read()) for name in names]
 
 
-def report(old_folder, new_folder, links, ttl=255):
-    table = open(links).read()
-    old, new = Network(load(old_folder), table), Network(load(new_folder), table)
+def report(old_folder, new_folder, links, new_links=None, ttl=255):
+    old = Network(load(old_folder), open(links).read())
+    new = Network(load(new_folder), open(new_links or links).read())
     lines, affected = [], 0
-    for place in old.ingress:
+    for place in old.ingress + [place for place in new.ingress if place not in old.ingress]:
         rows = canonical_rows(pieces(old, new, place, ttl))
         affected += len(rows)
         lines.append("ingress %s %s rows %d" % (*place, len(rows)))
         for fixed, bits, labels in rows:
             headers = Headers(fixed, bits)
-            lines.append(" ".join("%s %s" % (name, field_text(name, headers)) for name, _, _ in FIELDS))
+            lines.append(header_text(headers))
             lines.append("old " + label_text(labels[0]))
             lines.append("new " + label_text(labels[1]))
     return "\n".join(lines + ["affected %d" % affected]) + "\n"
 
 
+def header_text(headers):
+    return " ".join("%s %s" % (name, field_text(name, headers)) for name, _, _ in FIELDS)
+
+
+def header_of(word):
+    values = word.split(",")
+    bits = 0
+    for (_, shift, _), value in zip(FIELDS, [address_of(values[0]), address_of(values[1])] + [int(value) for value in values[2:]]):
+        bits |= value << shift
+    return Headers(2**PLACES - 1, bits)
+
+
+def trace(folder, links, device, interface, header, ttl=255):
+    network = Network(load(folder), open(links).read())
+    return "".join(line + "\n" for line in network.trace((device, interface), header_of(header), ttl))
+
+
+def main():
+    words, ttl = sys.argv[1:], 255
+    if len(words) >= 2 and words[-2] == "--ttl":
+        words, ttl = words[:-2], int(words[-1])
+    if words[:1] == ["trace"]:
+        sys.stdout.write(trace(*words[1:], ttl=ttl))
+    else:
+        sys.stdout.write(report(*words, ttl=ttl))
+
+
 if __name__ == "__main__":
-    sys.stdout.write(report(*sys.argv[1:4], *map(int, sys.argv[4:5])))
+    main()

@@ -1,5 +1,5 @@
 -- The commands, by their positional words and the values of their options.
-use Rattle.std.specs.Prelude.{◌≡◌, ℕ, Bool, ◌||◌, List, [], ◌∷◌, Option, Some, None, option_and_then, option_map, Result, Ok, Err, length, codes, ◌==◌, if◌then◌else◌}
+use Rattle.std.specs.Prelude.{◌≡◌, ◌≤◌, ℕ, Bool, ◌||◌, List, [], ◌∷◌, Option, Some, None, option_and_then, option_map, Result, Ok, Err, length, codes, ◌==◌, if◌then◌else◌}
 use Rattle.std.specs.List.{list_any}
 use Rattle.std.specs.Str.{bytes_eq}
 use Rattle.review_args.specs.Numbers.{Word, number_within, header_of}
@@ -80,6 +80,23 @@ command_of [] = None
 command_of (name ∷ words) =
     if has_stray name words || list_any is_empty (positional name words) then None
     else named name (positional name words) (values workers name words) (values ttl name words)
+
+-- the bounds of a command's numbers
+abbrev pub AreWorkers : ℕ → Type 0
+AreWorkers w = 1 ≤ w × w ≤ 64
+
+abbrev pub IsTtl : ℕ → Type 0
+IsTtl t = 1 ≤ t × t ≤ 255
+
+abbrev pub IsSize : ℕ → Type 0
+IsSize s = 2 ≤ s × s ≤ 200
+
+abbrev pub IsWithin : Command → Type 0
+IsWithin (command.Compare old new links new_links w t) = AreWorkers w × IsTtl t
+IsWithin (command.Ask net links questions w t) = AreWorkers w × IsTtl t
+IsWithin (command.Trace net links device interface header t) = IsTtl t
+IsWithin (command.Read net) = Unit {0}
+IsWithin (command.Gen number s w) = IsSize s × AreWorkers w
 
 -- what is answered where the words ask for this
 abbrev pub Answers : Option Command → Result Command WordsFail → Type 0

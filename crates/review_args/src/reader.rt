@@ -2,7 +2,7 @@
 ghost use Rattle.std.specs.Prelude.{◌≡◌, ◌≤◌, option_and_then, IfOk, IfSome, None, Some, Err, map, string_bytes};
 ghost use Rattle.std.specs.List.{list_any};
 ghost use Rattle.review_args.specs.Words.{has_stray, positional, values};
-ghost use Rattle.review_args.specs.Commands.{Answers, command_of, is_empty, named, option_number, workers_of, ttl_of, comparison, asking, tracing, reading, making, without};
+ghost use Rattle.review_args.specs.Commands.{Answers, AreWorkers, IsTtl, IsWithin, command_of, is_empty, named, option_number, workers_of, ttl_of, comparison, asking, tracing, reading, making, without};
 ghost use Rattle.review_args.specs.Parts.{texts};
 
 use crate::numbers::{header, long_number, number_within};
@@ -15,16 +15,19 @@ use std::alloc::Global;
 ///
 /// Refused comes exactly where they are outside the usage: a command of another name, positional words that are not
 /// those of the command or are empty, an option that doesn't go with it, stands twice, lacks its value or has one out
-/// of range, another word that begins with `-` before the first `--`, or a number or header that is none.
+/// of range, another word that begins with `-` before the first `--`, or a number or header that is none. The numbers
+/// of a command that is answered are within their bounds.
 pub fn read_words(alloc: Global, words: &[String]) -> Result<Command, WordsFail>
     ensures command { IfOk result (λ c. command_of (map string_bytes words.now) ≡ Some c) }
     ensures refused { result ≡ Err WordsFail.Refused → command_of (map string_bytes words.now) ≡ None }
+    ensures within { IfOk result IsWithin }
 {
     read(alloc, words)
 }
 
 fn read(alloc: Global, words: &[String]) -> Result<Command, WordsFail>
-    ensures { Answers (command_of (map string_bytes words.now)) result }
+    ensures asked { Answers (command_of (map string_bytes words.now)) result }
+    ensures within { IfOk result IsWithin }
 {
     let [name, rest @ ..] = words else {
         return Err(WordsFail::Refused);
@@ -58,7 +61,8 @@ fn is_empty(word: &str) -> bool
 
 // The command of this name.
 fn named(alloc: Global, name: &str, parts: &Parts) -> Result<Command, WordsFail>
-    ensures { Answers (named name.now (texts parts.now.positional) (texts parts.now.workers) (texts parts.now.ttl)) result }
+    ensures asked { Answers (named name.now (texts parts.now.positional) (texts parts.now.workers) (texts parts.now.ttl)) result }
+    ensures within { IfOk result IsWithin }
 {
     if name == "compare" {
         return compare(alloc, parts);
@@ -92,13 +96,15 @@ fn option_number(values: &[&str], low: u32, high: u32, usual: u32) -> Option<u32
 }
 
 fn workers_of(parts: &Parts) -> Option<u32>
-    ensures { result ≡ workers_of (texts parts.now.workers) }
+    ensures value { result ≡ workers_of (texts parts.now.workers) }
+    ensures within { IfSome result AreWorkers }
 {
     option_number(&parts.workers, 1, 64, 4)
 }
 
 fn ttl_of(parts: &Parts) -> Option<u8>
-    ensures { result ≡ ttl_of (texts parts.now.ttl) }
+    ensures value { result ≡ ttl_of (texts parts.now.ttl) }
+    ensures within { IfSome result IsTtl }
 {
     let ttl = option_number(&parts.ttl, 1, 255, 255)?;
     Some(ttl as u8)
@@ -106,7 +112,8 @@ fn ttl_of(parts: &Parts) -> Option<u8>
 
 // `compare OLD NEW LINKS [NEWLINKS]`
 fn compare(alloc: Global, parts: &Parts) -> Result<Command, WordsFail>
-    ensures { Answers (option_and_then (λ n. option_and_then (comparison (texts parts.now.positional) n) (ttl_of (texts parts.now.ttl))) (workers_of (texts parts.now.workers))) result }
+    ensures asked { Answers (option_and_then (λ n. option_and_then (comparison (texts parts.now.positional) n) (ttl_of (texts parts.now.ttl))) (workers_of (texts parts.now.workers))) result }
+    ensures within { IfOk result IsWithin }
 {
     let Some(workers) = workers_of(parts) else {
         return Err(WordsFail::Refused);
@@ -118,7 +125,10 @@ fn compare(alloc: Global, parts: &Parts) -> Result<Command, WordsFail>
 }
 
 fn comparison(alloc: Global, parts: &Parts, workers: u32, ttl: u8) -> Result<Command, WordsFail>
-    ensures { Answers (comparison (texts parts.now.positional) workers ttl) result }
+    requires workers { AreWorkers workers }
+    requires ttl { IsTtl ttl }
+    ensures asked { Answers (comparison (texts parts.now.positional) workers ttl) result }
+    ensures within { IfOk result IsWithin }
 {
     match parts.positional.as_slice() {
         [old, new, links] => Ok(Command::Compare {
@@ -143,7 +153,8 @@ fn comparison(alloc: Global, parts: &Parts, workers: u32, ttl: u8) -> Result<Com
 
 // `ask NET LINKS QUESTIONS`
 fn ask(alloc: Global, parts: &Parts) -> Result<Command, WordsFail>
-    ensures { Answers (option_and_then (λ n. option_and_then (asking (texts parts.now.positional) n) (ttl_of (texts parts.now.ttl))) (workers_of (texts parts.now.workers))) result }
+    ensures asked { Answers (option_and_then (λ n. option_and_then (asking (texts parts.now.positional) n) (ttl_of (texts parts.now.ttl))) (workers_of (texts parts.now.workers))) result }
+    ensures within { IfOk result IsWithin }
 {
     let Some(workers) = workers_of(parts) else {
         return Err(WordsFail::Refused);
@@ -165,7 +176,8 @@ fn ask(alloc: Global, parts: &Parts) -> Result<Command, WordsFail>
 
 // `trace NET LINKS DEVICE INTERFACE HEADER`
 fn trace(alloc: Global, parts: &Parts) -> Result<Command, WordsFail>
-    ensures { Answers (without (texts parts.now.workers) (option_and_then (tracing (texts parts.now.positional)) (ttl_of (texts parts.now.ttl)))) result }
+    ensures asked { Answers (without (texts parts.now.workers) (option_and_then (tracing (texts parts.now.positional)) (ttl_of (texts parts.now.ttl)))) result }
+    ensures within { IfOk result IsWithin }
 {
     if !parts.workers.is_empty() {
         return Err(WordsFail::Refused);
@@ -174,7 +186,8 @@ fn trace(alloc: Global, parts: &Parts) -> Result<Command, WordsFail>
 }
 
 fn trace_within(alloc: Global, parts: &Parts) -> Result<Command, WordsFail>
-    ensures { Answers (option_and_then (tracing (texts parts.now.positional)) (ttl_of (texts parts.now.ttl))) result }
+    ensures asked { Answers (option_and_then (tracing (texts parts.now.positional)) (ttl_of (texts parts.now.ttl))) result }
+    ensures within { IfOk result IsWithin }
 {
     let Some(ttl) = ttl_of(parts) else {
         return Err(WordsFail::Refused);
@@ -183,7 +196,9 @@ fn trace_within(alloc: Global, parts: &Parts) -> Result<Command, WordsFail>
 }
 
 fn tracing(alloc: Global, parts: &Parts, ttl: u8) -> Result<Command, WordsFail>
-    ensures { Answers (tracing (texts parts.now.positional) ttl) result }
+    requires { IsTtl ttl }
+    ensures asked { Answers (tracing (texts parts.now.positional) ttl) result }
+    ensures within { IfOk result IsWithin }
 {
     let [net, links, device, interface, header_word] = parts.positional.as_slice() else {
         return Err(WordsFail::Refused);
@@ -203,7 +218,8 @@ fn tracing(alloc: Global, parts: &Parts, ttl: u8) -> Result<Command, WordsFail>
 
 // `read NET`
 fn read_network(alloc: Global, parts: &Parts) -> Result<Command, WordsFail>
-    ensures { Answers (without (texts parts.now.workers) (without (texts parts.now.ttl) (reading (texts parts.now.positional)))) result }
+    ensures asked { Answers (without (texts parts.now.workers) (without (texts parts.now.ttl) (reading (texts parts.now.positional)))) result }
+    ensures within { IfOk result IsWithin }
 {
     if !parts.workers.is_empty() || !parts.ttl.is_empty() {
         return Err(WordsFail::Refused);
@@ -218,7 +234,8 @@ fn read_network(alloc: Global, parts: &Parts) -> Result<Command, WordsFail>
 
 // `gen NUMBER SIZE`
 fn generate(parts: &Parts) -> Result<Command, WordsFail>
-    ensures { Answers (without (texts parts.now.ttl) (option_and_then (making (texts parts.now.positional)) (workers_of (texts parts.now.workers)))) result }
+    ensures asked { Answers (without (texts parts.now.ttl) (option_and_then (making (texts parts.now.positional)) (workers_of (texts parts.now.workers)))) result }
+    ensures within { IfOk result IsWithin }
 {
     if !parts.ttl.is_empty() {
         return Err(WordsFail::Refused);
@@ -227,7 +244,8 @@ fn generate(parts: &Parts) -> Result<Command, WordsFail>
 }
 
 fn generate_by(parts: &Parts) -> Result<Command, WordsFail>
-    ensures { Answers (option_and_then (making (texts parts.now.positional)) (workers_of (texts parts.now.workers))) result }
+    ensures asked { Answers (option_and_then (making (texts parts.now.positional)) (workers_of (texts parts.now.workers))) result }
+    ensures within { IfOk result IsWithin }
 {
     let Some(workers) = workers_of(parts) else {
         return Err(WordsFail::Refused);
@@ -236,7 +254,9 @@ fn generate_by(parts: &Parts) -> Result<Command, WordsFail>
 }
 
 fn making(parts: &Parts, workers: u32) -> Result<Command, WordsFail>
-    ensures { Answers (making (texts parts.now.positional) workers) result }
+    requires { AreWorkers workers }
+    ensures asked { Answers (making (texts parts.now.positional) workers) result }
+    ensures within { IfOk result IsWithin }
 {
     let [number, size] = parts.positional.as_slice() else {
         return Err(WordsFail::Refused);

@@ -8,19 +8,24 @@ use Rattle.topo_links.specs.declared.table.LinkTable.{LinkTable}
 use Rattle.topo_links.specs.declared.table.LinkFail.{LinkFail}
 use Rattle.topo_links.specs.declared.table.LinkFail.TheVariants as links
 use Rattle.topo_links.specs.Table.{table_of}
-use Rattle.topo_links.specs.Check.{table_fault}
 use Rattle.net_load.specs.declared.folder.LoadFail.{LoadFail}
 use Rattle.net_load.specs.declared.folder.LoadFail.TheVariants as load
-use Rattle.net_load.specs.declared.numbering.Numbered.{Numbered}
 use Rattle.net_load.specs.Folder.{Loads, Unless}
-use Rattle.net_load.specs.Numbering.{numbered_of}
+use Rattle.net_load.specs.Numbering.{numbered_of, numbered_both}
+use Rattle.net_gen.specs.Networks.{networks}
 use Rattle.net_load.proofs.OneAnswer.{loaded_is_free, loads_once}
 use Rattle.review_core.specs.declared.stop.Stop.{Stop}
 use Rattle.review_core.specs.declared.stop.Stop.TheVariants as stop
-use Rattle.review_core.specs.declared.comparison.Report.{Report}
-use Rattle.review_core.specs.Accepted.{IsAccepted, MayAlwaysStop}
-use Rattle.review_core.specs.Steps.{stop_of_load, GivesFolder, UnreadFile, GivesBytes, GivesTable, SaysTable, LinksFail}
-use Rattle.review_core.specs.Job.{Reports, ComparesOver, ComparesWith, Does, word_at}
+use Rattle.review_core.specs.declared.report.Report.{Report}
+use Rattle.review_core.specs.declared.table.Wires.{Wires}
+use Rattle.review_core.specs.declared.table.Wires.TheVariants as wires
+use Rattle.review_core.specs.declared.words.Job.{Job}
+use Rattle.review_core.specs.declared.words.Packet.{Packet}
+use Rattle.review_core.specs.declared.words.Job.TheVariants as job
+use Rattle.review_core.specs.Accepted.{AcceptedFolder, AcceptedTable, AcceptedTables, AcceptedComparison, AcceptedTrace, AcceptedJob, IsAccepted, MayAlwaysStop}
+use Rattle.review_core.specs.Steps.{stop_of_load, fault_in, GivesFolder, UnreadFile, GivesBytes, GivesTable, SaysTable, LinksFail}
+use Rattle.review_core.specs.Words.{job_of}
+use Rattle.review_core.specs.Job.{OrNoMemory, IsShared, IsRewired, IsReading, IsSummaryOf, IsTrace, Rewires, ComparesOver, ComparesWith, Compares, TracesOver, Traces, Reads, Performs, Does}
 
 abbrev AreEqual : {A : Type 0} → Result A Stop → Result A Stop → Type 0
 AreEqual x y = x ≡ y
@@ -52,10 +57,10 @@ free_load (load.FolderTooLong p) h = h
 free_load (load.Refused p r) h = h
 free_load (load.HostnameTaken p q) h = h
 
-folder_may_stop : (t : Told) (folder : List ℕ) (xs : List Loaded) (s : Stop) → Loads (λ devices. devices) t folder (Ok xs) → GivesFolder (λ (devices : List Loaded). devices) t folder (Err s) → MayAlwaysStop s
-folder_may_stop t folder xs s loaded (fail, fails, same) = subst MayAlwaysStop (sym same) (free_load fail (loaded_is_free t folder xs fail loaded fails))
+folder_may_stop : (t : Told) (folder : List ℕ) (a : AcceptedFolder t folder) (s : Stop) → GivesFolder (λ (devices : List Loaded). devices) t folder (Err s) → MayAlwaysStop s
+folder_may_stop t folder a s (fail, fails, same) = subst MayAlwaysStop (sym same) (free_load fail (loaded_is_free t folder a.devices fail a.loaded fails))
 
--- ---- the link table
+-- ---- the link tables
 
 unread_may_stop : (path : List ℕ) (o : Option (List ℕ)) (bytes : List ℕ) (s : Stop) → o ≡ Some bytes → length bytes ≤ file_limit → UnreadFile path o s → MayAlwaysStop s
 unread_may_stop path o bytes (stop.CannotRead p) there within h = tt
@@ -69,51 +74,79 @@ unread_may_stop path o bytes (stop.RefusedConfig p r) there within h = h
 unread_may_stop path o bytes (stop.HostnameTaken p q) there within h = h
 unread_may_stop path o bytes (stop.RefusedLinks p k n w) there within h = h
 
-links_may_stop : (path : List ℕ) (old new : List Loaded) (bytes : List ℕ) (table : LinkTable) (s : Stop) → table_of bytes ≡ Ok table → table_fault old new table.lines ≡ None → LinksFail path old new bytes s → MayAlwaysStop s
-links_may_stop path old new bytes table stop.NoMemory read fits h = tt
-links_may_stop path old new bytes table (stop.CannotRead p) read fits h = tt
-links_may_stop path old new bytes table (stop.NotFound p) read fits h = h
-links_may_stop path old new bytes table (stop.TooLong p) read fits h = h
-links_may_stop path old new bytes table (stop.TooManyFiles p) read fits h = h
-links_may_stop path old new bytes table (stop.RefusedConfig p r) read fits h = h
-links_may_stop path old new bytes table (stop.HostnameTaken p q) read fits h = h
-links_may_stop path old new bytes table (stop.RefusedLinks p k n w) read fits (same, inl refused) = ok_err (table_of bytes) table (links.Refused k n w) read refused
-links_may_stop path old new bytes table (stop.RefusedLinks p k n w) read fits (same, inr (other, said, fails)) =
-    none_some (table_fault old new other.lines) (links.Refused k n w) (subst (λ (x : LinkTable). table_fault old new x.lines ≡ None) (ok_is (table_of bytes) table other read said) fits) fails
+links_may_stop : (path : List ℕ) (w : Wires) (first second : List Loaded) (bytes : List ℕ) (table : LinkTable) (s : Stop) → table_of bytes ≡ Ok table → fault_in w first second table.lines ≡ None → LinksFail path w first second bytes s → MayAlwaysStop s
+links_may_stop path w first second bytes table stop.NoMemory read fits h = tt
+links_may_stop path w first second bytes table (stop.CannotRead p) read fits h = tt
+links_may_stop path w first second bytes table (stop.NotFound p) read fits h = h
+links_may_stop path w first second bytes table (stop.TooLong p) read fits h = h
+links_may_stop path w first second bytes table (stop.TooManyFiles p) read fits h = h
+links_may_stop path w first second bytes table (stop.RefusedConfig p r) read fits h = h
+links_may_stop path w first second bytes table (stop.HostnameTaken p q) read fits h = h
+links_may_stop path w first second bytes table (stop.RefusedLinks p k n word) read fits (same, inl refused) = ok_err (table_of bytes) table (links.Refused k n word) read refused
+links_may_stop path w first second bytes table (stop.RefusedLinks p k n word) read fits (same, inr (other, said, fails)) =
+    none_some (fault_in w first second other.lines) (links.Refused k n word) (subst (λ (x : LinkTable). fault_in w first second x.lines ≡ None) (ok_is (table_of bytes) table other read said) fits) fails
 
-table_may_stop : (t : Told) (path : List ℕ) (old new : List Loaded) (bytes : List ℕ) (table : LinkTable) (s : Stop) → content t path ≡ Some bytes → length bytes ≤ file_limit → table_of bytes ≡ Ok table → table_fault old new table.lines ≡ None → GivesTable t path old new (Err s) → MayAlwaysStop s
-table_may_stop t path old new bytes table s there within read fits (inl (r, unread, same)) = inside s r same (unread_may_stop path (content t path) bytes r there within unread)
-table_may_stop t path old new bytes table s there within read fits (inr (others, given, says)) =
-    links_may_stop path old new bytes table s read fits (subst (λ (b : List ℕ). LinksFail path old new b s) (some_is (content t path) others bytes given.0 there) says)
+table_may_stop : (t : Told) (path : List ℕ) (w : Wires) (first second : List Loaded) (a : AcceptedTable t path w first second) (s : Stop) → GivesTable t path w first second (Err s) → MayAlwaysStop s
+table_may_stop t path w first second a s (inl (r, unread, same)) = inside s r same (unread_may_stop path (content t path) a.bytes r a.there a.within unread)
+table_may_stop t path w first second a s (inr (others, given, says)) =
+    links_may_stop path w first second a.bytes a.table s a.read a.fits (subst (λ (b : List ℕ). LinksFail path w first second b s) (some_is (content t path) others a.bytes given.0 a.there) says)
 
--- ---- the report
+-- ---- what is written
 
-report_may_stop : (n : Numbered) (s : Stop) → Reports n (Err s) → MayAlwaysStop s
-report_may_stop n stop.NoMemory h = tt
-report_may_stop n (stop.CannotRead p) h = tt
-report_may_stop n (stop.NotFound p) h = h
-report_may_stop n (stop.TooLong p) h = h
-report_may_stop n (stop.TooManyFiles p) h = h
-report_may_stop n (stop.RefusedConfig p r) h = h
-report_may_stop n (stop.HostnameTaken p q) h = h
-report_may_stop n (stop.RefusedLinks p k m w) h = h
+writing_may_stop : (Is : Report → Type 0) (s : Stop) → OrNoMemory Is (Err s) → MayAlwaysStop s
+writing_may_stop Is stop.NoMemory h = tt
+writing_may_stop Is (stop.CannotRead p) h = tt
+writing_may_stop Is (stop.NotFound p) h = h
+writing_may_stop Is (stop.TooLong p) h = h
+writing_may_stop Is (stop.TooManyFiles p) h = h
+writing_may_stop Is (stop.RefusedConfig p r) h = h
+writing_may_stop Is (stop.HostnameTaken p q) h = h
+writing_may_stop Is (stop.RefusedLinks p k m w) h = h
 
 -- ---- one after the other
 
-module _ (words : List (List ℕ)) (t : Told) (s : Stop) (a : IsAccepted words t) where
-  over_may_stop : ComparesOver t a.old a.new (word_at words 3) (Err s) → MayAlwaysStop s
-  over_may_stop (inl (r, gives, same)) = inside s r same (table_may_stop t (word_at words 3) a.old a.new a.bytes a.table r a.there a.within a.read a.fits gives)
-  over_may_stop (inr (table, gives, reports)) = report_may_stop (numbered_of a.old a.new table []) s reports
+module _ (t : Told) (s : Stop) where
+  rewires_may_stop : (old new : List Loaded) (table : LinkTable) (new_links : List ℕ) (ttl : ℕ) → AcceptedTable t new_links wires.First new old → Rewires t old new table new_links ttl (Err s) → MayAlwaysStop s
+  rewires_may_stop old new table new_links ttl a (inl (r, gives, same)) = inside s r same (table_may_stop t new_links wires.First new old a r gives)
+  rewires_may_stop old new table new_links ttl a (inr (new_table, gives, reports)) = writing_may_stop (IsRewired (numbered_both old new table new_table []) ttl) s reports
 
-  with_may_stop : ComparesWith t a.old (word_at words 2) (word_at words 3) (Err s) → MayAlwaysStop s
-  with_may_stop (inl (r, gives, same)) = inside s r same (folder_may_stop t (word_at words 2) a.new r a.new_loaded gives)
-  with_may_stop (inr (new, gives, next)) =
-      over_may_stop (subst (λ (ls : List Loaded). ComparesOver t a.old ls (word_at words 3) (Err s)) (loads_once t (word_at words 2) new a.new gives a.new_loaded) next)
+  over_may_stop : (old new : List Loaded) (links : List ℕ) (new_links : Option (List ℕ)) (ttl : ℕ) → AcceptedTables t old new links new_links → ComparesOver t old new links new_links ttl (Err s) → MayAlwaysStop s
+  over_may_stop old new links None ttl a (inl (r, gives, same)) = inside s r same (table_may_stop t links wires.Both old new a r gives)
+  over_may_stop old new links None ttl a (inr (table, gives, reports)) = writing_may_stop (IsShared (numbered_of old new table []) ttl) s reports
+  over_may_stop old new links (Some new_links) ttl a (inl (r, gives, same)) = inside s r same (table_may_stop t links wires.First old new a.0 r gives)
+  over_may_stop old new links (Some new_links) ttl a (inr (table, gives, next)) = rewires_may_stop old new table new_links ttl a.1 next
 
-  may_stop : Does words t (Err s) → MayAlwaysStop s
-  may_stop (inl (r, gives, same)) = inside s r same (folder_may_stop t (word_at words 1) a.old r a.old_loaded gives)
-  may_stop (inr (old, gives, next)) =
-      with_may_stop (subst (λ (ls : List Loaded). ComparesWith t ls (word_at words 2) (word_at words 3) (Err s)) (loads_once t (word_at words 1) old a.old gives a.old_loaded) next)
+  module _ (old new links : List ℕ) (new_links : Option (List ℕ)) (ttl : ℕ) (a : AcceptedComparison t old new links new_links) where
+    with_may_stop : ComparesWith t a.before.devices new links new_links ttl (Err s) → MayAlwaysStop s
+    with_may_stop (inl (r, gives, same)) = inside s r same (folder_may_stop t new a.after r gives)
+    with_may_stop (inr (devices, gives, next)) =
+        over_may_stop a.before.devices a.after.devices links new_links ttl a.tables (subst (λ (ls : List Loaded). ComparesOver t a.before.devices ls links new_links ttl (Err s)) (loads_once t new devices a.after.devices gives a.after.loaded) next)
+
+    comparison_may_stop : Compares t old new links new_links ttl (Err s) → MayAlwaysStop s
+    comparison_may_stop (inl (r, gives, same)) = inside s r same (folder_may_stop t old a.before r gives)
+    comparison_may_stop (inr (devices, gives, next)) =
+        with_may_stop (subst (λ (ls : List Loaded). ComparesWith t ls new links new_links ttl (Err s)) (loads_once t old devices a.before.devices gives a.before.loaded) next)
+
+  module _ (links : List ℕ) (packet : Packet) (ttl : ℕ) where
+    traced_may_stop : (devices : List Loaded) → AcceptedTable t links wires.Both devices devices → TracesOver t devices links packet ttl (Err s) → MayAlwaysStop s
+    traced_may_stop devices a (inl (r, gives, same)) = inside s r same (table_may_stop t links wires.Both devices devices a r gives)
+    traced_may_stop devices a (inr (table, gives, written)) = writing_may_stop (IsTrace devices table packet ttl) s written
+
+    trace_may_stop : (net : List ℕ) → AcceptedTrace t net links → Traces t net links packet ttl (Err s) → MayAlwaysStop s
+    trace_may_stop net a (inl (r, gives, same)) = inside s r same (folder_may_stop t net a.folder r gives)
+    trace_may_stop net a (inr (devices, gives, next)) =
+        traced_may_stop a.folder.devices a.table (subst (λ (ls : List Loaded). TracesOver t ls links packet ttl (Err s)) (loads_once t net devices a.folder.devices gives a.folder.loaded) next)
+
+  reading_may_stop : (net : List ℕ) → AcceptedFolder t net → Reads t net (Err s) → MayAlwaysStop s
+  reading_may_stop net a (inl (r, gives, same)) = inside s r same (folder_may_stop t net a r gives)
+  reading_may_stop net a (inr (devices, gives, written)) = writing_may_stop (IsReading devices) s written
+
+  job_may_stop : (o : Option Job) → AcceptedJob o t → Performs o t (Err s) → MayAlwaysStop s
+  job_may_stop None a d = absurd a
+  job_may_stop (Some (job.Compare old new links new_links ttl)) a d = comparison_may_stop old new links new_links ttl a d
+  job_may_stop (Some (job.Trace net links packet ttl)) a d = trace_may_stop links packet ttl net a d
+  job_may_stop (Some (job.Read net)) a d = reading_may_stop net a d
+  job_may_stop (Some (job.Gen number size)) a d = writing_may_stop (IsSummaryOf (networks number size)) s d
 
 pub accepted_may_stop : (words : List (List ℕ)) (t : Told) (s : Stop) → IsAccepted words t → Does words t (Err s) → MayAlwaysStop s
-accepted_may_stop words t s a d = may_stop words t s a d
+accepted_may_stop words t s a d = job_may_stop t s (job_of words) a d

@@ -1,19 +1,23 @@
 -- How a run ends: what the report and its status say, and what a stop and its status say.
-use Rattle.std.proofs.Common.{◌≡◌, ◌⊎◌, inl, inr, ℕ, ◌≤◌, ◌++◌, Bool, true, false, cond, List, Option, Some, None, Ok, Err, IfSome, refl, sym, ap, subst, ◌∙◌, arith}
+use Rattle.std.proofs.Common.{◌≡◌, ◌⊎◌, inl, inr, ℕ, ◌≤◌, ◌++◌, Bool, true, false, cond, List, Option, Some, None, Result, Ok, Err, IfSome, refl, sym, ap, subst, ◌∙◌, arith}
 use Rattle.std.specs.Prelude.{option_map}
 use Rattle.net_io.specs.Files.{Told}
 use Rattle.net_io.specs.Sink.{TookPrefix}
-use Rattle.review_core.specs.declared.comparison.Report.{Report}
+use Rattle.review_core.specs.declared.report.Report.{Report}
+use Rattle.review_core.specs.declared.words.Job.{Job}
 use Rattle.review_core.specs.declared.stop.Stop.{Stop}
 use Rattle.review_core.specs.declared.stop.Stop.TheVariants as stop
 use Rattle.net_io.specs.Faults.{Rose, Faultless}
 use Rattle.review_core.specs.Stops.{status_of, line_of, cannot_read_line}
 use Rattle.review_core.specs.Lines.{no_memory_text}
 use Rattle.review_core.specs.Causes.{FaultRose, HasCause}
-use Rattle.review_core.specs.Words.{is_comparison}
-use Rattle.review_core.specs.Accepted.{IsAccepted, MayAlwaysStop}
+use Rattle.review_core.specs.Words.{job_of}
+use Rattle.review_core.specs.Accepted.{AcceptedJob, IsAccepted, MayAlwaysStop}
 use Rattle.review_core.proofs.Accepted.{accepted_may_stop}
-use Rattle.review_core.specs.Job.{Does, Wrote, WrotePart, StoppedWith, Said, Tells, status_of_report}
+use Rattle.review_core.specs.Job.{Performs, Does, Wrote, WrotePart, StoppedWith, Said, Tells, status_of_report}
+
+some_none : (o : Option Job) (j : Job) → o ≡ Some j → o ≡ None → ⊥
+some_none o j some none = cc
 
 -- a stop has none of the statuses of a report, of words that are no command and of a failed output
 stop_status : (s : Stop) → 3 ≤ status_of s
@@ -53,12 +57,12 @@ module _ (words : List (List ℕ)) where
       let is = w.2 in
       λ e. elim e [ inl zero ↦ absurd (omega arith) | inr one ↦ absurd (omega arith) ]
 
-  pub stop_told : (told : Option Told) (s : Stop) → IfSome told (λ t. Does words t (Err s)) → (status : ℕ) (err err' : Option (List ℕ)) (faults faults' : ℕ) → Tells s status err err' faults faults' → IfSome told (λ t. (status ≡ 3) ⊎ ((status ≡ 5) ⊎ (status ≡ 8)) → StoppedWith words t status err err' faults faults')
+  pub stop_told : (told : Option Told) (s : Stop) → IfSome told (λ t. Does words t (Err s)) → (status : ℕ) (err err' : Option (List ℕ)) (faults faults' : ℕ) → Tells s status err err' faults faults' → IfSome told (λ t. (status ≡ 3) ⊎ ((status ≡ 4) ⊎ ((status ≡ 5) ⊎ (status ≡ 8))) → StoppedWith words t status err err' faults faults')
   stop_told None s d status err err' faults faults' w = tt
   stop_told (Some t) s d status err err' faults faults' (told, inl same, is, said) = λ e. (s, d, is ∙ ap status_of same, subst (λ x. Said (line_of x) err err' faults faults') same said)
   stop_told (Some t) s d status err err' faults faults' (told, inr none, is, said) =
       let seven : status ≡ 7 = is ∙ ap status_of none in
-      λ e. elim e [ inl three ↦ absurd (omega arith) | inr more ↦ elim more [ inl five ↦ absurd (omega arith) | inr eight ↦ absurd (omega arith) ] ]
+      λ e. elim e [ inl three ↦ absurd (omega arith) | inr more ↦ elim more [ inl four ↦ absurd (omega arith) | inr most ↦ elim most [ inl five ↦ absurd (omega arith) | inr eight ↦ absurd (omega arith) ] ] ]
 
 -- ---- the error output
 
@@ -174,7 +178,16 @@ module _ (words : List (List ℕ)) where
   report_complete (Some t) r status files files' out out' Q (inl six) rose = λ a none quiet. absurd (quiet (rose six))
   report_complete (Some t) r status files files' out out' Q (inr w) rose = λ a none quiet. inr (zero_or_one r status w.0)
 
-  pub refuse_complete : (told : Option Told) (status files files' out out' : ℕ) → is_comparison words ≡ false
+  pub refuse_complete : (told : Option Told) (status files files' out out' : ℕ) → job_of words ≡ None
       → IfSome told (λ t. IsAccepted words t → Faultless files files' → Faultless out out' → (status ≡ 7) ⊎ ((status ≡ 0) ⊎ (status ≡ 1)))
   refuse_complete None status files files' out out' other = tt
-  refuse_complete (Some t) status files files' out out' other = λ a none quiet. let same = a.command in absurd (cc)
+  refuse_complete (Some t) status files files' out out' other = λ a none quiet. absurd (subst (λ o. AcceptedJob o t) other a)
+
+-- ---- the job of the words
+
+-- what is done for the job that the words ask is what they ask
+pub does_job : (words : List (List ℕ)) (told : Option Told) (j : Job) (result : Result Report Stop) → job_of words ≡ Some j → IfSome told (λ t. Performs (Some j) t result) → IfSome told (λ t. Does words t result)
+does_job words told j result asked d = subst (λ o. IfSome told (λ t. Performs o t result)) (sym asked) d
+
+pub not_refused : {P : Type 0} (words : List (List ℕ)) (j : Job) → job_of words ≡ Some j → job_of words ≡ None → P
+not_refused words j asked none = absurd (some_none (job_of words) j asked none)

@@ -1,3 +1,4 @@
 pub mod JobLemmas
 pub mod Endings
 pub mod Accepted
+pub mod Naming

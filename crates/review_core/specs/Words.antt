@@ -1,18 +1,27 @@
--- The words of the command line.
-use Rattle.std.specs.Prelude.{ℕ, Bool, false, not, ◌&&◌, List, [], ◌∷◌, ◌==◌, codes}
-use Rattle.std.specs.Str.{bytes_eq}
+-- What the words of the command line ask the program to do.
+use Rattle.std.specs.Prelude.{ℕ, List, Option, None, Some, option_and_then}
+use Rattle.review_args.specs.declared.command.Command.{Command}
+use Rattle.review_args.specs.declared.command.Command.TheVariants as command
+use Rattle.review_args.specs.Commands.{command_of, IsTtl, IsSize}
+use Rattle.review_core.specs.declared.words.Job.{Job}
+use Rattle.review_core.specs.declared.words.Job.TheVariants as job
 
--- a word that may be a path: it isn't empty, and doesn't begin with `-`
-abbrev pub is_path : List ℕ → Bool
-is_path [] = false
-is_path (c ∷ word) = not (c == 45)
+-- the job of a command. The usage has `ask` too, which isn't there yet
+abbrev pub served : Command → Option Job
+served (command.Compare old new links new_links w t) = Some (job.Compare old new links new_links t)
+served (command.Ask net links questions w t) = None
+served (command.Trace net links device interface header t) =
+    Some (job.Trace net links (record { device = device; interface = interface; header = header }) t)
+served (command.Read net) = Some (job.Read net)
+served (command.Gen number s w) = Some (job.Gen number s)
 
--- the words are `compare OLD NEW LINKS`
-abbrev pub is_comparison : List (List ℕ) → Bool
-is_comparison [] = false
-is_comparison (command ∷ []) = false
-is_comparison (command ∷ old ∷ []) = false
-is_comparison (command ∷ old ∷ new ∷ []) = false
-is_comparison (command ∷ old ∷ new ∷ links ∷ []) =
-    bytes_eq command (codes "compare") && (is_path old && (is_path new && is_path links))
-is_comparison (command ∷ old ∷ new ∷ links ∷ more ∷ words) = false
+-- the job of the words after the program's name; nothing where they are outside the usage
+abbrev pub job_of : List (List ℕ) → Option Job
+job_of words = option_and_then served (command_of words)
+
+-- its numbers are within their bounds
+abbrev pub IsWithin : Job → Type 0
+IsWithin (job.Compare old new links new_links t) = IsTtl t
+IsWithin (job.Trace net links packet t) = IsTtl t
+IsWithin (job.Read net) = Unit {0}
+IsWithin (job.Gen number s) = IsSize s

@@ -3,12 +3,19 @@
 
 mod comparison;
 mod folder;
+mod generated;
 pub mod laws;
+mod reading;
+mod report;
+mod rewiring;
 mod stop;
 mod table;
 mod top;
+mod tracing;
 mod words;
 
-pub use comparison::Report;
+pub use report::Report;
 pub use stop::Stop;
+pub use table::Wires;
 pub use top::{no_memory, run};
+pub use words::{Job, Packet};

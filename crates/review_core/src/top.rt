@@ -1,23 +1,32 @@
-ghost use Rattle.std.specs.Prelude.{◌≡◌, ◌≢◌, ◌⊎◌, ◌↔◌, ℕ, List, ◌≤◌, ◌++◌, false, Err, IfSome, IfErr, map, string_bytes, option_map};
+ghost use Rattle.std.specs.Prelude.{◌≡◌, ◌≢◌, ◌⊎◌, ℕ, List, ◌≤◌, ◌++◌, None, Some, Err, IfSome, IfErr, map, string_bytes, option_map};
 ghost use Rattle.net_io.specs.Faults.{Rose, Faultless};
 ghost use Rattle.net_io.specs.Sink.{TookPrefix};
 ghost use Rattle.review_core.specs.Causes.{HasCause};
-ghost use Rattle.review_core.specs.Words.{is_comparison};
+ghost use Rattle.review_core.specs.Words.{job_of, IsWithin};
 ghost use Rattle.review_core.specs.Stops.{status_of, line_of, cannot_read_line};
 ghost use Rattle.review_core.specs.Lines.{usage_text, cannot_write_text, no_memory_text};
 ghost use Rattle.review_core.specs.Accepted.{IsAccepted};
 ghost use Rattle.review_core.specs.declared.stop.Stop.{Stop};
-ghost use Rattle.review_core.specs.Job.{Does, word_at, Wrote, WrotePart, StoppedWith, Said, Tells, status_of_report};
+ghost use Rattle.review_core.specs.Job.{Performs, Wrote, WrotePart, StoppedWith, Said, Tells, status_of_report};
 
-use crate::comparison::{Report, compare_folders};
+use crate::comparison::compare_folders;
+use crate::generated::compare_generated;
+use crate::reading::read_network;
+use crate::report::Report;
 use crate::stop::{NO_MEMORY, Stop};
-use crate::words::is_comparison;
+use crate::tracing::trace_in_folder;
+use crate::words::{Job, job_of};
 use net_io::{Files, Sink, write_all};
+use review_args::WordsFail;
 use std::alloc::Global;
 
-// What is written where the words are no command.
+// What is written where the words are outside the usage.
 const USAGE: &[u8] = b"usage:
-  compare OLD NEW LINKS
+  compare OLD NEW LINKS [NEWLINKS] [--workers N] [--ttl T]
+  ask NET LINKS QUESTIONS [--workers N] [--ttl T]
+  trace NET LINKS DEVICE INTERFACE HEADER [--ttl T]
+  read NET
+  gen NUMBER SIZE [--workers N]
 ";
 
 // What is written where the output took no more.
@@ -31,8 +40,9 @@ pub fn run<F: Files, O: Sink, E: Sink>(
     out: &mut O,
     err: &mut E,
 ) -> u8
-    // The words alone decide whether they are a command.
-    ensures usage { (result ≡ 2) ↔ (is_comparison (map string_bytes words.now) ≡ false) }
+    // The words alone decide whether they are within the usage, but for want of memory to read them.
+    ensures usage { result ≡ 2 → job_of (map string_bytes words.now) ≡ None }
+    ensures refused { job_of (map string_bytes words.now) ≡ None → (result ≡ 2) ⊎ (result ≡ 7) }
 
     // Statuses 0 and 1 come with exactly the report of the job, 1 exactly where it has a row.
     ensures written { IfSome (F.told files.old) (λ t. (result ≡ 0) ⊎ (result ≡ 1)
@@ -43,8 +53,8 @@ pub fn run<F: Files, O: Sink, E: Sink>(
         → WrotePart (map string_bytes words.now) t (O.taken out.old) (O.taken out.new)) }
     ensures nothing { result ≢ 0 → result ≢ 1 → result ≢ 6 → O.taken out.new ≡ O.taken out.old }
 
-    // Statuses 3, 5 and 8 come by the first cause of the job, with its line.
-    ensures stopped { IfSome (F.told files.old) (λ t. (result ≡ 3) ⊎ ((result ≡ 5) ⊎ (result ≡ 8))
+    // Statuses 3, 4, 5 and 8 come by the first cause of the job, with its line; at 4 its path is that of the call that failed.
+    ensures stopped { IfSome (F.told files.old) (λ t. (result ≡ 3) ⊎ ((result ≡ 4) ⊎ ((result ≡ 5) ⊎ (result ≡ 8)))
         → StoppedWith (map string_bytes words.now) t result (E.taken err.old) (E.taken err.new) (E.faults err.old) (E.faults err.new)) }
 
     // Faults are blamed only where they were counted.
@@ -70,10 +80,12 @@ pub fn run<F: Files, O: Sink, E: Sink>(
     ensures line { (result ≡ 3) ⊎ ((result ≡ 5) ⊎ (result ≡ 8))
         → (s : Stop) × (result ≡ status_of s) × Said (line_of s) (E.taken err.old) (E.taken err.new) (E.faults err.old) (E.faults err.new) }
 {
-    if !is_comparison(words) {
-        return refuse(err);
-    }
-    match report(alloc, words, files) {
+    let job = match job_of(alloc, words) {
+        Ok(job) => job,
+        Err(WordsFail::Refused) => return refuse(err),
+        Err(WordsFail::NoMemory) => return no_memory(err),
+    };
+    match perform(alloc, &job, files) {
         Ok(report) => write_report(&report, out, err),
         Err(stop) => tell(alloc, &stop, err),
     }
@@ -88,27 +100,40 @@ pub fn no_memory<E: Sink>(err: &mut E) -> u8
     7
 }
 
-// The report that the words ask for.
-fn report<F: Files>(alloc: Global, words: &[String], files: &mut F) -> Result<Report, Stop>
-    ensures job { IfSome (F.told files.old) (λ t. Does (map string_bytes words.now) t result) }
+// Does the job.
+fn perform<F: Files>(alloc: Global, job: &Job, files: &mut F) -> Result<Report, Stop>
+    requires { IsWithin job.now }
+    ensures job { IfSome (F.told files.old) (λ t. Performs (Some job.now) t result) }
     ensures cause { HasCause (F.faults files.old) (F.faults files.new) result }
 {
-    let old = word_at(words, 1);
-    let new = word_at(words, 2);
-    let links = word_at(words, 3);
-    compare_folders(alloc, files, old, new, links)
-}
-
-fn word_at(words: &[String], i: usize) -> &str
-    ensures { result.now ≡ word_at (map string_bytes words.now) i }
-{
-    match words.get(i) {
-        Some(word) => word.as_str(),
-        None => "",
+    match job {
+        Job::Compare {
+            old,
+            new,
+            links,
+            new_links,
+            ttl,
+        } => compare_folders(
+            alloc,
+            files,
+            old.as_str(),
+            new.as_str(),
+            links.as_str(),
+            new_links,
+            *ttl,
+        ),
+        Job::Trace {
+            net,
+            links,
+            packet,
+            ttl,
+        } => trace_in_folder(alloc, files, net.as_str(), links.as_str(), packet, *ttl),
+        Job::Read { net } => read_network(alloc, files, net.as_str()),
+        Job::Gen { number, size } => compare_generated(alloc, *number, *size),
     }
 }
 
-// The words are no command.
+// The words are outside the usage.
 fn refuse<E: Sink>(err: &mut E) -> u8
     ensures status { result ≡ 2 }
     ensures line { Said usage_text (E.taken err.old) (E.taken err.new) (E.faults err.old) (E.faults err.new) }

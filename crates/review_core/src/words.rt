@@ -1,25 +1,106 @@
-ghost use Rattle.std.specs.Prelude.{◌≡◌, map, string_bytes};
-ghost use Rattle.review_core.specs.Words.{is_path, is_comparison};
+ghost use Rattle.std.specs.Prelude.{◌≡◌, IfOk, IfSome, None, Some, Err, map, string_bytes};
+ghost use Rattle.review_args.specs.Commands as Commands;
+ghost use Rattle.review_core.specs.Words.{served, job_of, IsWithin};
 
-/// Whether the words are a comparison, `compare OLD NEW LINKS`.
-pub(crate) fn is_comparison(words: &[String]) -> bool
-    ensures { result ≡ is_comparison (map string_bytes words.now) }
-{
-    let [command, old, new, links] = words else {
-        return false;
-    };
-    command.as_str() == "compare"
-        && is_path(old.as_str())
-        && is_path(new.as_str())
-        && is_path(links.as_str())
+use hdr_bits::Header;
+use net_types::{Text, Word};
+use review_args::{Command, WordsFail, read_words};
+use std::alloc::Global;
+
+/// A packet by its header and the place where it enters, which is an interface of a device, each by its name.
+#[derive(Drop)]
+pub struct Packet {
+    pub device: Text,
+    pub interface: Text,
+    pub header: Header,
 }
 
-// Whether a word may be a path: it isn't empty, and doesn't begin like an option.
-fn is_path(word: &str) -> bool
-    ensures { result ≡ is_path word.now }
+/// What the program is asked to do. TTLs are 1 to 255, and sizes 2 to 200.
+#[derive(Drop)]
+pub enum Job {
+    /// The report on two networks. Both are wired by `links`; where `new_links` is there, it wires the new one.
+    Compare {
+        old: Word,
+        new: Word,
+        links: Word,
+        new_links: Option<Word>,
+        ttl: u8,
+    },
+    /// The trace of a packet in a network.
+    Trace {
+        net: Word,
+        links: Word,
+        packet: Packet,
+        ttl: u8,
+    },
+    /// A line for each configuration of a network.
+    Read {
+        net: Word,
+    },
+    /// How far two networks that are made from a number differ.
+    Gen {
+        number: u64,
+        size: u32,
+    },
+}
+
+/// What the words of the command line ask. Refused comes exactly where they are outside the usage.
+pub(crate) fn job_of(alloc: Global, words: &[String]) -> Result<Job, WordsFail>
+    ensures job { IfOk result (λ job. job_of (map string_bytes words.now) ≡ Some job) }
+    ensures refused { result ≡ Err WordsFail.Refused → job_of (map string_bytes words.now) ≡ None }
+    ensures within { IfOk result IsWithin }
 {
-    match word.as_bytes() {
-        [] => false,
-        [first, ..] => *first != b'-',
+    let command = read_words(alloc, words)?;
+    match served(command) {
+        Some(job) => Ok(job),
+        None => Err(WordsFail::Refused),
+    }
+}
+
+// The job of a command, where it is there.
+fn served(command: Command) -> Option<Job>
+    requires { Commands.IsWithin command }
+    ensures job { result ≡ served command }
+    ensures within { IfSome result IsWithin }
+{
+    match command {
+        Command::Compare {
+            old,
+            new,
+            links,
+            new_links,
+            workers: _,
+            ttl,
+        } => Some(Job::Compare {
+            old,
+            new,
+            links,
+            new_links,
+            ttl,
+        }),
+        Command::Ask { .. } => None,
+        Command::Trace {
+            net,
+            links,
+            device,
+            interface,
+            header,
+            ttl,
+        } => Some(Job::Trace {
+            net,
+            links,
+            packet: Packet {
+                device,
+                interface,
+                header,
+            },
+            ttl,
+        }),
+        Command::Read { net } => Some(Job::Read { net }),
+        Command::Gen {
+            number,
+            size,
+            workers: _,
+        } => Some(Job::Gen { number, size }),
     }
 }

@@ -1,7 +1,8 @@
 //! The cases of the file `comparisons`: each a line `== NAME` and its files, each a line `-- PATH` and its lines. There are
-//! always the folders `old` and `new`.
+//! always the folders `old` and `new`. Those of the file `commands` have besides the command lines that are run over the
+//! files, each behind `$ ` and with a blank between words.
 
-use crate::runs::{COMPARE, show_run};
+use crate::runs::{COMPARE, show_line, show_run};
 use crate::stop::Stop;
 use net_io::MemFiles;
 use std::alloc::Global;
@@ -20,6 +21,26 @@ fn show_case(rt: &HostRuntime, case: &str) -> Result<(), Stop> {
     println!(rt; "== {name}")?;
     let mut files = files_of(rt.alloc(), given)?;
     show_run(rt, &mut files, &COMPARE, 10_000)
+}
+
+pub(crate) fn show_commands(rt: &HostRuntime) -> Result<(), Stop> {
+    let cases = fs::read_to_string(rt, "commands")?;
+    for case in cases.as_str().split("== ").skip(1) {
+        show_commands_of(rt, case)?;
+    }
+    Ok(())
+}
+
+fn show_commands_of(rt: &HostRuntime, case: &str) -> Result<(), Stop> {
+    let (name, given) = case.split_once('\n').unwrap_or((case, ""));
+    println!(rt; "== {name}")?;
+    let mut files = files_of(rt.alloc(), given)?;
+    for line in given.lines() {
+        if let Some(words) = line.strip_prefix("$ ") {
+            show_line(rt, &mut files, words)?;
+        }
+    }
+    Ok(())
 }
 
 fn files_of(alloc: Global, given: &str) -> Result<MemFiles, Stop> {

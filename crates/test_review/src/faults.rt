@@ -10,7 +10,7 @@ pub(crate) fn show_words(rt: &HostRuntime) -> Result<(), Stop> {
         &["compare", "old", "new"],
         &["compare", "old", "-", "links"],
         &["compare", "old", "", "links"],
-        &["compare", "old", "new", "links", "more"],
+        &["compare", "old", "new", "links", "newlinks", "more"],
         &["--help"],
         &["compare", "none", "missing", "links"],
         &["compare", "old", "none", "missing"],

@@ -12,7 +12,6 @@ mod reports;
 mod runs;
 mod stop;
 mod system;
-mod ttl;
 
 use crate::stop::Stop;
 use std::io;
@@ -23,7 +22,7 @@ fn show_all(rt: &HostRuntime) -> Result<(), Stop> {
     faults::show_rooms(rt)?;
     faults::show_faults(rt)?;
     limits::show(rt)?;
-    ttl::show(rt)?;
+    comparisons::show_commands(rt)?;
     show_parts(rt)
 }
 

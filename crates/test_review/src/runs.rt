@@ -28,6 +28,13 @@ pub(crate) fn show_run(
     show_words(rt, files, &words, room)
 }
 
+/// Runs the words of a command line, with a blank between words, and shows them, the status and what was written.
+pub(crate) fn show_line(rt: &HostRuntime, files: &mut MemFiles, line: &str) -> Result<(), Stop> {
+    println!(rt; "$ {line}")?;
+    let words: Vec<&str> = line.split(' ').collect(rt.alloc())?;
+    show_run(rt, files, &words, 10_000)
+}
+
 fn show_words(
     rt: &HostRuntime,
     files: &mut MemFiles,

@@ -1,17 +1,9 @@
-use Rattle.std.proofs.Common.{List, [], Option, IfSome, Err, subst}
+use Rattle.std.proofs.Common.{Option, IfSome, Some, subst}
 use Rattle.net_io.specs.Files.{Told}
-use Rattle.net_types.specs.declared.config.Loaded.{Loaded}
-use Rattle.net_load.specs.Numbering.{numbered_of}
-use Rattle.review_core.specs.Steps.{GivesTable}
-use Rattle.review_core.specs.Job.{Reports}
-use Rattle.review_core.proofs.JobLemmas.{then_stop}
+use Rattle.review_core.specs.Job.{ComparesOver}
 use Rattle.review_core.proofs.comparison.compare_over.Goals as goal
 
-pub returns-in-Err-clause-job : goal.returns-in-Err-clause-job
-returns-in-Err-clause-job g c =
+pub returns-in-Some-clause-job : goal.returns-in-Some-clause-job
+returns-in-Some-clause-job g c =
     let told : Option Told = g.F.Files.told c.args.files.now in
-    let old = c.args.old.items in
-    let new = c.args.new.items in
-    let P : List Loaded → List Loaded → Type 0 = λ xs ys. IfSome told (λ t. GivesTable t c.args.links.now xs ys (Err c.in-Err.stop)) in
-    let table = subst (λ xs. P xs new) c.deref.ensures.value (subst (λ ys. P c.deref.result.now ys) c.deref-2.ensures.value c.in-Err.ensures.table) in
-    then_stop (λ t r. GivesTable t c.args.links.now old new r) (λ t table r. Reports (numbered_of old new table []) r) told c.in-Err.stop table
+    rw c.in-Some.is (subst (λ path. IfSome told (λ t. ComparesOver t c.args.old.items c.args.new.items c.args.links.now (Some path) c.args.ttl c.compare_rewired.result)) c.as_str.ensures c.compare_rewired.ensures.job)

@@ -1,0 +1,138 @@
+//! The command lines of the file `lines`, one a line, with a blank between words.
+
+use crate::stop::Stop;
+use hdr_bits::Header;
+use net_types::{Text, Word};
+use review_args::{Command, WordsFail, read_words};
+use std::alloc::Global;
+use std::{fs, io};
+
+/// Each line, and what it is read as.
+pub(crate) fn show(rt: &HostRuntime) -> Result<(), Stop> {
+    let lines = fs::read_to_string(rt, "lines")?;
+    show_lines(rt, lines.as_str())
+}
+
+fn show_lines(rt: &HostRuntime, lines: &str) -> Result<(), Stop> {
+    for line in lines.lines() {
+        show_line(rt, line)?;
+    }
+    Ok(())
+}
+
+fn show_line(rt: &HostRuntime, line: &str) -> Result<(), Stop> {
+    println!(rt; "$ {line}")?;
+    let words = words(rt.alloc(), line)?;
+    show_command(rt, &words)
+}
+
+fn words(alloc: Global, line: &str) -> Result<Vec<String>, Stop> {
+    let mut words = Vec::new(alloc);
+    for word in line.split(' ') {
+        words.push(String::from_str(alloc, word)?)?;
+    }
+    Ok(words)
+}
+
+fn show_command(rt: &HostRuntime, words: &[String]) -> Result<(), Stop> {
+    match read_words(rt.alloc(), words) {
+        Ok(command) => Ok(show_read(rt, &command)?),
+        Err(WordsFail::Refused) => Ok(println!(rt; "refused")?),
+        Err(WordsFail::NoMemory) => Err(Stop::NoMemory),
+    }
+}
+
+fn show_read(rt: &HostRuntime, command: &Command) -> io::Result<()> {
+    match command {
+        Command::Compare {
+            old,
+            new,
+            links,
+            new_links,
+            workers,
+            ttl,
+        } => {
+            show_compared(rt, old, new, links)?;
+            show_new_links(rt, new_links)?;
+            println!(rt; ", {} workers, ttl {}", *workers, *ttl)
+        }
+        Command::Ask {
+            net,
+            links,
+            questions,
+            workers,
+            ttl,
+        } => {
+            show_asked(rt, net, links, questions)?;
+            println!(rt; ", {} workers, ttl {}", *workers, *ttl)
+        }
+        Command::Trace {
+            net,
+            links,
+            device,
+            interface,
+            header,
+            ttl,
+        } => {
+            show_traced(rt, net, links)?;
+            show_place(rt, device, interface)?;
+            show_header(rt, header, *ttl)
+        }
+        Command::Read { net } => println!(rt; "read {}", net.as_str()),
+        Command::Gen {
+            number,
+            size,
+            workers,
+        } => println!(rt; "gen {} of {}, {} workers", *number, *size, *workers),
+    }
+}
+
+fn show_compared(rt: &HostRuntime, old: &Word, new: &Word, links: &Word) -> io::Result<()> {
+    print!(rt;
+        "compare {} with {} over {}",
+        old.as_str(),
+        new.as_str(),
+        links.as_str()
+    )
+}
+
+fn show_new_links(rt: &HostRuntime, new_links: &Option<Word>) -> io::Result<()> {
+    match new_links {
+        Some(new_links) => print!(rt; " and {}", new_links.as_str()),
+        None => Ok(()),
+    }
+}
+
+fn show_asked(rt: &HostRuntime, net: &Word, links: &Word, questions: &Word) -> io::Result<()> {
+    print!(rt;
+        "ask {} over {} with {}",
+        net.as_str(),
+        links.as_str(),
+        questions.as_str()
+    )
+}
+
+fn show_traced(rt: &HostRuntime, net: &Word, links: &Word) -> io::Result<()> {
+    print!(rt; "trace {} over {}", net.as_str(), links.as_str())
+}
+
+fn show_place(rt: &HostRuntime, device: &Text, interface: &Text) -> io::Result<()> {
+    print!(rt; " from {} {}", text(device), text(interface))
+}
+
+// A name of a device or an interface; the ones here are text.
+fn text(name: &Text) -> &str {
+    str::from_utf8(name.as_bytes()).unwrap_or("?")
+}
+
+fn show_header(rt: &HostRuntime, header: &Header, ttl: u8) -> io::Result<()> {
+    let Header {
+        dst,
+        src,
+        proto,
+        dport,
+        sport,
+        flags,
+    } = *header;
+    println!(rt; ", header {dst} {src} {proto} {dport} {sport} {flags}, ttl {ttl}")
+}
