@@ -13,3 +13,4 @@ pub mod RetoldLemmas
 pub mod PathLemmas
 pub mod PairedLemmas
 pub mod TrieLemmas
+pub mod DestinationLemmas

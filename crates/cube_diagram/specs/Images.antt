@@ -1,10 +1,11 @@
 -- Functions that are made of one other function: where it has a value, with digits written into the headers, from another
--- table, with values told anew; and the least header that has a value.
+-- table, with values told anew, by destinations alone; and the least header that has a value.
 use Rattle.std.specs.Prelude.{ℕ, Option, Some, None, IsSome, ◌≡◌, ◌<◌, ◌≤◌, ◌-◌, ◌^◌, List, length, slice_index_or, if◌then◌else◌, ◌==◌}
 use Rattle.hdr_bits.specs.Bits.{bit_of}
 use Rattle.hdr_bits.specs.declared.cube.Cube.{Cube}
 use Rattle.cube_diagram.specs.declared.table.Node.{Node}
 use Rattle.cube_diagram.specs.declared.memo.Combination.{Combination}
+use Rattle.cube_diagram.specs.Functions.{IsByDestination}
 use Rattle.cube_diagram.specs.Nodes.{IsModel, meaning, tested_at}
 
 -- 1 where it is this value, else nothing
@@ -67,6 +68,16 @@ pub record IsConstant (nodes : List Node) (v : Option ℕ) (r : ℕ) : Type 0 wh
   pub below : r < length nodes
   pub value : (val : ℕ → ℕ → Option ℕ) → IsModel nodes val → (h : ℕ) → val r h ≡ v
   pub order : 112 ≤ tested_at nodes r
+
+-- r gives 1 to the headers with the destination of one that a gives a value, and tests no bit before that of a
+pub record HasDestinations (nodes : List Node) (a r : ℕ) : Type 0 where
+  pub from : a < length nodes
+  pub below : r < length nodes
+  pub told : (val : ℕ → ℕ → Option ℕ) → IsModel nodes val → IsByDestination (val a) (val r)
+  pub order : tested_at nodes a ≤ tested_at nodes r
+
+pub record AreByDestination (nodes : List Node) (known : ℕ → Option ℕ) : Type 0 where
+  pub each : (a r : ℕ) → known a ≡ Some r → HasDestinations nodes a r
 
 -- no header before this one has a value, and this one has: a number that is 0 before the bit that id tests
 pub record IsLeast (nodes : List Node) (id r : ℕ) : Type 0 where

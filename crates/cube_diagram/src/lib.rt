@@ -11,6 +11,7 @@ mod combine;
 mod compare;
 mod copied;
 mod descent;
+mod destinations;
 mod diagrams;
 mod entry;
 mod exact;

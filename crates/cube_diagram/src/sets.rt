@@ -11,10 +11,11 @@ ghost use Rattle.cube_diagram.specs.Combined.{if_both, if_alone};
 ghost use Rattle.hdr_bits.specs.Lists.{Extends};
 ghost use Rattle.cube_diagram.specs.Paired.{IsPairAt};
 ghost use Rattle.cube_diagram.specs.Images.{AreCopied, if_value, retold};
-ghost use Rattle.cube_diagram.specs.Functions.{Keeps, GivesNothing, IsFirst, count_of, value_at};
+ghost use Rattle.cube_diagram.specs.Functions.{Keeps, GivesNothing, IsByDestination, IsFirst, count_of, value_at};
 
 use crate::combine::{combine, make_room};
 use crate::copied::copied;
+use crate::destinations::by_destination;
 use crate::diagrams::Diagrams;
 use crate::least::least;
 use crate::memo::{Operation, new_memo};
@@ -103,6 +104,18 @@ impl Diagrams {
     {
         let mut known = IndexMap::new(alloc);
         let id = retold(&mut self.tables, told, function, &mut known)?;
+        Ok(id)
+    }
+
+    /// The set of all headers with the destination of one to which the function gives a value.
+    pub fn by_destination(&mut self, alloc: Global, function: u32) -> Result<u32, NoMemory>
+        requires { function < count_of self.old }
+        ensures below { IfOk result (λ r. r < count_of self.new) }
+        ensures exact { IfOk result (λ r. IsByDestination (value_at self.old function) (value_at self.new r)) }
+        ensures kept { Keeps self.old self.new }
+    {
+        let mut known = IndexMap::new(alloc);
+        let id = by_destination(&mut self.tables, function, &mut known)?;
         Ok(id)
     }
 

@@ -21,7 +21,9 @@ pub(crate) fn same_ports(a: &[u16], b: &[u16]) -> bool
     a == b
 }
 
-pub(crate) fn same_nat_rules(a: &[NatRule], b: &[NatRule]) -> bool
+/// Whether two lists of translation rules are known to be equal, rule by rule in order. The contract says nothing of the
+/// answer `false`.
+pub fn same_nat_rules(a: &[NatRule], b: &[NatRule]) -> bool
     ensures { result ≡ true → a.now ≡ b.now }
 {
     if a.len() != b.len() {
