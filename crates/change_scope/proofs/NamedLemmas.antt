@@ -1,7 +1,5 @@
--- Lists that grow by one, and the pieces for addresses.
-use Rattle.net_types.proofs.Members.{in_none}
-use Rattle.std.proofs.lemmas.Bool.Decides.{eqb_tells}
-use Rattle.std.proofs.Common.{true≢false, ℕ, true, ◌==◌, ◌≡◌, ◌<◌, ◌+◌, ◌⊎◌, inl, inr, take, get_or, List, [], ◌∷◌, ◌++◌, length, slice_get, Option, Some, None, IsSome, refl, ap, sym, ◌∙◌, subst, arith}
+-- Lists that grow by one, and the headers to addresses.
+use Rattle.std.proofs.Common.{ℕ, ◌≡◌, ◌<◌, ◌+◌, ◌*◌, ◌/◌, ◌^◌, ◌⊎◌, inl, inr, take, get_or, List, [], ◌∷◌, ◌++◌, length, slice_get, Option, Some, None, IsSome, refl, ap, sym, ◌∙◌, subst, arith}
 use Rattle.std.specs.Prelude.{Contains}
 use Rattle.std.specs.Option.{option_or}
 use Rattle.std.proofs.lemmas.Bool.{cases_lt}
@@ -16,7 +14,9 @@ use Rattle.cube_alg.specs.Pieces.{value_of}
 use Rattle.cube_alg.proofs.ValueLemmas.{value_of-append, value_one}
 use Rattle.net_types.specs.declared.config.NatRule.{NatRule}
 use Rattle.net_types.specs.declared.network.NetDevice.{NetDevice}
-use Rattle.change_scope.specs.Translated.{AreNamed, HasMore, IsNamed, Names}
+use Rattle.cube_diagram.specs.Functions.{IsByDestination, SameDestination}
+use Rattle.std.proofs.lemmas.Nat.{div-mul-add}
+use Rattle.change_scope.specs.Translated.{AreNamed, HasMore, IsNamed, header_to}
 use Rattle.change_scope.proofs.TurnLemmas.{named_more}
 
 -- what is among one more item
@@ -42,7 +42,41 @@ device_next old new ds i d l e m one all x c =
       | inr k ↦ subst (λ (z : NetDevice). AreNamed new z.config.nat) (sym k) one
     ]
 
--- ---- two pieces for one more address
+-- ---- headers to addresses
+dst_of : (h : Header) → IsHeader h → number h / 2 ^ 80 ≡ h.dst
+dst_of h v =
+    let rest = h.src * 2 ^ 48 + h.proto * 2 ^ 40 + h.dport * 2 ^ 24 + h.sport * 2 ^ 8 + h.flags in
+    let src = v.src in
+    let proto = v.proto in
+    let dport = v.dport in
+    let sport = v.sport in
+    let flags = v.flags in
+    let e : number h ≡ h.dst * 2 ^ 80 + rest = omega arith in
+    ap (λ n. n / 2 ^ 80) e ∙ div-mul-add h.dst (2 ^ 80) rest (omega (arith, src, proto, dport, sport, flags))
+
+pub same_destination : (h g : Header) → IsHeader h → IsHeader g → h.dst ≡ g.dst → SameDestination (number h) (number g)
+same_destination h g v u e = dst_of h v ∙ (e ∙ sym (dst_of g u))
+
+some_one : (x : Option ℕ) (v : ℕ) → x ≡ Some v → IsSome x
+some_one x v e = subst (λ o. IsSome o) (sym e) refl
+
+pub destinations_closed : (value set : ℕ → Option ℕ) → IsByDestination value set → (h g : Header) → IsHeader h → IsHeader g → h.dst ≡ g.dst → IsSome (set (number h)) → IsSome (set (number g))
+destinations_closed value set t h g v u e s =
+    elim (t.only (number h)) [
+      | inl n ↦ let z : IsSome {T = ℕ} None = subst (λ o. IsSome o) n s in absurd cc
+      | inr x ↦ some_one (set (number g)) 1 (t.has (number g) x.1 (sym (same_destination h g v u e) ∙ x.2) x.3)
+    ]
+
+to_fits : (h : Header) → IsHeader h → IsHeader (header_to h.dst)
+to_fits h v = record { dst = v.dst; src = omega arith; proto = omega arith; dport = omega arith; sport = omega arith; flags = omega arith }
+
+pub headers_there : (value set : ℕ → Option ℕ) (addresses : List ℕ) → IsByDestination value set → ((a : ℕ) → Contains addresses a → IsSome (value (number (header_to a)))) → (h : Header) → IsHeader h → Contains addresses h.dst → IsSome (set (number h))
+headers_there value set addresses t all h v c =
+    some_one (set (number h)) 1 (t.has (number h) (number (header_to h.dst)) (same_destination h (header_to h.dst) v (to_fits h v) refl) (all h.dst c))
+
+pub to_small : (a : ℕ) → a < 2 ^ 32 → number (header_to a) < 2 ^ 112
+to_small a l = omega (arith, l)
+
 or_first : (x y : Option ℕ) → IsSome x → IsSome (option_or x y)
 or_first None y e = absurd cc
 or_first (Some u) y e = refl
@@ -51,28 +85,13 @@ or_second : (x y : Option ℕ) → IsSome y → IsSome (option_or x y)
 or_second None y e = e
 or_second (Some u) y e = refl
 
-some_one : (x : Option ℕ) (v : ℕ) → x ≡ Some v → IsSome x
-some_one x v e = subst (λ o. IsSome o) (sym e) refl
-
-pub pieces_next : (xs : List ℕ) (i a : ℕ) (pieces : List Piece) (to from : Piece) → i < length xs → a ≡ get_or xs i a → ((h : Header) → IsHeader h → h.dst ≡ a → IsIn to.cube (number h)) → ((h : Header) → IsHeader h → h.src ≡ a → IsIn from.cube (number h)) → ((h : Header) → IsHeader h → Names (take i xs) h → IsSome (value_of pieces (number h))) → (h : Header) → IsHeader h → Names (take (i + 1) xs) h → IsSome (value_of ((pieces ++ to ∷ []) ++ from ∷ []) (number h))
-pieces_next xs i a pieces to from l e dst src all h v names =
-    let n = number h in
-    let p = value_of pieces n in
-    let t = value_of (to ∷ []) n in
-    let f = value_of (from ∷ []) n in
-    let eq : value_of ((pieces ++ to ∷ []) ++ from ∷ []) n ≡ option_or (option_or p t) f = value_of-append (pieces ++ to ∷ []) (from ∷ []) n ∙ ap (λ o. option_or o f) (value_of-append pieces (to ∷ []) n) in
-    let before : Names (take i xs) h → IsSome (option_or (option_or p t) f) = λ s. or_first (option_or p t) f (or_first p t (all h v s)) in
-    let is_to : h.dst ≡ a → IsSome (option_or (option_or p t) f) = λ s. or_first (option_or p t) f (or_second p t (some_one t to.value (value_one to n (dst h v s)))) in
-    let is_from : h.src ≡ a → IsSome (option_or (option_or p t) f) = λ s. or_second (option_or p t) f (some_one f from.value (value_one from n (src h v s))) in
-    subst (λ o. IsSome o) (sym eq) (elim names [
-      | inl c ↦ elim (taken xs i a h.src l e c) [
-        | inl k ↦ before (inl k)
-        | inr k ↦ is_from k
-      ]
-      | inr c ↦ elim (taken xs i a h.dst l e c) [
-        | inl k ↦ before (inr k)
-        | inr k ↦ is_to k
-      ]
+-- one more address
+pub pieces_next : (xs : List ℕ) (i a : ℕ) (pieces : List Piece) (p : Piece) → i < length xs → a ≡ get_or xs i a → IsIn p.cube (number (header_to a)) → ((x : ℕ) → Contains (take i xs) x → IsSome (value_of pieces (number (header_to x)))) → (x : ℕ) → Contains (take (i + 1) xs) x → IsSome (value_of (pieces ++ p ∷ []) (number (header_to x)))
+pieces_next xs i a pieces p l e one all x c =
+    let n = number (header_to x) in
+    subst (λ o. IsSome o) (sym (value_of-append pieces (p ∷ []) n)) (elim (taken xs i a x l e c) [
+      | inl k ↦ or_first (value_of pieces n) (value_of (p ∷ []) n) (all x k)
+      | inr k ↦ or_second (value_of pieces n) (value_of (p ∷ []) n) (some_one (value_of (p ∷ []) n) p.value (value_one p n (subst (λ z. IsIn p.cube (number (header_to z))) (sym k) one)))
     ])
 
 -- ---- one more position of two lists
@@ -91,11 +110,3 @@ pair_next P xs ys n x y e o all one i l u v c d =
 
 pub at_index : {A : Type 0} (xs : List A) (i : ℕ) (x : A) → i < length xs → x ≡ get_or xs i x → slice_get xs i ≡ Some x
 at_index xs i x l e = slice_get-get_or xs i x l ∙ ap Some (sym e)
-
-pub none_of_empty : (xs : List ℕ) (a : ℕ) → (length xs == 0) ≡ true → Contains xs a → ⊥
-none_of_empty [] a e c = in_none a c
-none_of_empty (x ∷ xs) a e c =
-    elim (eqb_tells (length (x ∷ xs)) 0) [
-      | inl p ↦ let q = p.1 in absurd (omega (arith, q))
-      | inr p ↦ absurd (true≢false (sym e ∙ p.0))
-    ]

@@ -43,13 +43,13 @@ use Rattle.set_walk.specs.Scopes.{IsKept, IsKeptIn, IsScope}
 use Rattle.change_scope.specs.declared.scope.Both.{Both}
 use Rattle.change_scope.specs.declared.scope.Pair.{Pair}
 use Rattle.change_scope.specs.Devices.{AreAlikeAt, AreComparable}
-use Rattle.change_scope.specs.Differences.{AgreeBeyond, AreBelow, FormsAgree, HasAll}
+use Rattle.change_scope.specs.Differences.{AgreeBeyond, AreBelow, FormsAgree, HasAll, IsBelow}
 use Rattle.change_scope.specs.Pairs.{AreBoth, HasTurned, IsPair}
-use Rattle.change_scope.specs.Translated.{AreNamed, AreTurned, HasMore, HasNamed, IsTurned, TurnsBy}
+use Rattle.change_scope.specs.Translated.{AreNamed, AreTurned, ByDestination, HasAllRules, HasMore, HasNamed, IsTurned, TurnsBy}
 use Rattle.change_scope.proofs.SeatLemmas.{item_there}
 use Rattle.change_scope.proofs.MoveLemmas.{SameFate, dropped, own, sent, SeatsAlike, TreatAlike, same_moves}
 use Rattle.change_scope.proofs.GoLemmas.{goes_on}
-use Rattle.change_scope.proofs.TurnLemmas.{found_in, named_more, same_number, turned_by}
+use Rattle.change_scope.proofs.TurnLemmas.{found_in, has_rules, named_more, rules_more, same_number, turned_by}
 
 -- ---- one fate of two devices
 same_hops : (xs ys : List Hop) (x : Hop) → in_order hop_cmp xs ≡ in_order hop_cmp ys → Contains xs x → Contains ys x
@@ -96,25 +96,8 @@ pub kept_pair : (f g : Functions) (p : Pair) → Keeps f g → IsPair f p → Is
 kept_pair f g p k a = record { old = kept_form f g p.fates.now p.old.now k a.old; new = kept_form f g p.fates.now p.new.now k a.new; like = a.like }
 
 -- ---- sets grow
-more_turned : (f g : Functions) (a b : ℕ) (h x : Header) → HasAll f a g b → IsTurned f a h x → IsTurned g b h x
-more_turned f g a b h x m t =
-    record {
-      fits = t.fits;
-      stays = elim t.stays [
-        | inl e ↦ inl e
-        | inr n ↦ inr (m h n.0, m x n.1)
-      ];
-    }
-
-are_turned : (f g : Functions) (a b : ℕ) (ds : List NetDevice) → HasAll f a g b → AreTurned ds f a → AreTurned ds g b
-are_turned f g a b ds m t d c =
-    record {
-      outside = λ h v. more_turned f g a b h (from_outside d.config.nat h) m ((t d c).outside h v);
-      inside = λ h v. more_turned f g a b h (from_inside d.config.nat h) m ((t d c).inside h v);
-    }
-
-pub more_has : (f g : Functions) (a b : ℕ) (p : Pair) → HasAll f a g b → b < count_of g → HasTurned p f a → HasTurned p g b
-more_has f g a b p m l t = record { below = l; old = are_turned f g a b p.old.now.world.network.now.devices m t.old; new = are_turned f g a b p.new.now.world.network.now.devices m t.new }
+pub more_has : (f g : Functions) (a b : ℕ) (p : Pair) → HasAll f a g b → b < count_of g → ByDestination g b → HasTurned p f a → HasTurned p g b
+more_has f g a b p m l by t = record { below = l; by = by; old = λ d c. rules_more f g a b d.config.nat m (t.old d c); new = λ d c. rules_more f g a b d.config.nat m (t.new d c) }
 
 pub more_alike : (w v : World) (f g : Functions) (a b name : ℕ) → HasAll f a g b → AreAlikeAt w v f a name → AreAlikeAt w v g b name
 more_alike w v f g a b name m s p e h i out = s p e h i (λ x. out (m h x))
@@ -129,6 +112,9 @@ alike_in_everything w v f all name e p q h i out m = absurd (out (in_everything 
 pub all_in_everything : (f : Functions) (set all : ℕ) → ((h : ℕ) → value_at f all h ≡ Some 1) → HasAll f set f all
 all_in_everything f set all e h x = in_everything f all e h
 
+pub everything_by : (f : Functions) (all : ℕ) → ((h : ℕ) → value_at f all h ≡ Some 1) → ByDestination f all
+everything_by f all e h g v u d x = in_everything f all e g
+
 -- ---- a device that is alike
 pub alike_like : (w v : World) (f : Functions) (set name : ℕ) (names : List ℕ) → All (IsLike w v) names → Contains names name → AreAlikeAt w v f set name
 alike_like w v f set name names l c p e h i out m =
@@ -138,42 +124,46 @@ alike_like w v f set name names l c p e h i out m =
     )
 
 -- ---- a device that is compared by its functions
-not_turned : (f : Functions) (set : ℕ) (h g : Header) → (InSet f set h → ⊥) → IsTurned f set h g → g ≡ h
-not_turned f set h g out t = elim t.stays [ inl e ↦ e | inr n ↦ absurd (out n.0) ]
+-- what two networks don't treat otherwise
+abbrev pub Beyond : Functions → ℕ → Header → Type 0
+Beyond fs set h = IsHeader h × (InSet fs set h → ⊥)
 
-module _ (f g : Functions) (set : ℕ) (fates : List Fate) (w v : World) (d e : NetDevice) (a b : DeviceForm) (x : IsDeviceForm f fates d a) (y : IsDeviceForm f fates e b) (s : AreComparable w v d e) (agree : FormsAgree f a b g set) (same_name : d.name ≡ e.name) (old : TurnsBy d.config.nat g set) (new : TurnsBy e.config.nat g set) where
-  seat_alike : (h : Header) → IsHeader h → (InSet g set h → ⊥) → (i : ℕ) (p q : Interface) → slice_get d.config.interfaces i ≡ Some p → slice_get e.config.interfaces i ≡ Some q → SeatsAlike d.config e.config h p q
-  seat_alike h i out n p q k l =
+turned_beyond : (f : Functions) (set : ℕ) (h g : Header) → Beyond f set h → IsTurned f set h g → Beyond f set g
+turned_beyond f set h g o t = (t.fits, λ i. o.1 (t.stays.1 i))
+
+module _ (f g : Functions) (set : ℕ) (fates : List Fate) (w v : World) (d e : NetDevice) (a b : DeviceForm) (x : IsDeviceForm f fates d a) (y : IsDeviceForm f fates e b) (s : AreComparable w v d e) (agree : FormsAgree f a b g set) (same_name : d.name ≡ e.name) (turns : TurnsBy e.config.nat g set) where
+  seat_alike : (i : ℕ) (p q : Interface) → slice_get d.config.interfaces i ≡ Some p → slice_get e.config.interfaces i ≡ Some q → SeatsAlike d.config e.config (Beyond g set) p q
+  seat_alike n p q k l =
       let z = s.seats.each n p q k l in
       let m = x.seats.each n p k in
       let o = y.seats.each n q l in
       let t = agree.seats n (slice_get_within a.seats.items n m.item m.there) m.item o.item m.there o.there in
       record {
         name = z.name;
+        side = z.side;
         enabled = z.enabled;
-        input = same_list f g set (list_named d.config p.input) (list_named e.config q.input) m.item.input o.item.input h i out m.right.input o.right.input t.input;
-        output = same_list f g set (list_named d.config p.output) (list_named e.config q.output) m.item.output o.item.output h i out m.right.output o.right.output t.output;
+        input = λ h out. same_list f g set (list_named d.config p.input) (list_named e.config q.input) m.item.input o.item.input h out.0 out.1 m.right.input o.right.input t.input;
+        output = λ h out. same_list f g set (list_named d.config p.output) (list_named e.config q.output) m.item.output o.item.output h out.0 out.1 m.right.output o.right.output t.output;
       }
 
-  treat_alike : (h : Header) → IsHeader h → (InSet g set h → ⊥) → TreatAlike w v d e h
-  treat_alike h i out =
+  treat_alike : TreatAlike w v d e (Beyond g set)
+  treat_alike =
       record {
         name = same_name;
         numbers = s.numbers;
+        rules = s.rules;
         enough = x.numbers;
         count = s.seats.count;
-        seats = seat_alike h i out;
+        seats = seat_alike;
         sends = s.sends;
-        fate = same_fate d.config e.config fates (value_at f a.fates (number h)) (value_at f b.fates (number h)) h.dst (agree.fates h out) (x.numbered h i) (y.numbered h i);
-        old_outside = not_turned g set h (from_outside d.config.nat h) out (old.outside h i);
-        old_inside = not_turned g set h (from_inside d.config.nat h) out (old.inside h i);
-        new_outside = not_turned g set h (from_outside e.config.nat h) out (new.outside h i);
-        new_inside = not_turned g set h (from_inside e.config.nat h) out (new.inside h i);
+        fate = λ h out. same_fate d.config e.config fates (value_at f a.fates (number h)) (value_at f b.fates (number h)) h.dst (agree.fates h out.1) (x.numbered h out.0) (y.numbered h out.0);
+        outside = λ h out. turned_beyond g set h (from_outside e.config.nat h) out (turns.outside h out.0);
+        inside = λ h out. turned_beyond g set h (from_inside e.config.nat h) out (turns.inside h out.0);
       }
 
   pub alike_compared : (name : ℕ) → find (λ z. z.name == name) w.network.devices ≡ Some d → find (λ z. z.name == name) v.network.devices ≡ Some e → AreAlikeAt w v g set name
   alike_compared name k l p q h i out m =
-      same_moves w v p d e h (ap (λ n. find (λ z. z.name == n) w.network.devices) q ∙ k) (ap (λ n. find (λ z. z.name == n) v.network.devices) q ∙ l) (treat_alike h i out) m
+      same_moves w v p d e (Beyond g set) (ap (λ n. find (λ z. z.name == n) w.network.devices) q ∙ k) (ap (λ n. find (λ z. z.name == n) v.network.devices) q ∙ l) treat_alike h (i, out) m
 
 pub indexed : (fs : Functions) (fates : List Fate) (n : NetworkForm) → IsNetworkForm fs fates n → IsIndexed n
 indexed fs fates n a = record { wiring = a.wiring; count = a.devices.count }
@@ -187,7 +177,7 @@ form_below fs fates d a r n x e =
     let m = r.seats.each n t.0 t.1 in
     let s : Some m.item ≡ Some x = sym m.there ∙ e in
     let q : m.item ≡ x = cc in
-    subst (λ z. (z.input < count_of fs) × (z.output < count_of fs)) q (m.right.input.below, m.right.output.below)
+    subst (IsBelow fs) q (record { input = m.right.input.below; output = m.right.output.below })
 
 pub same_count : (fs : Functions) (fates : List Fate) (d e : NetDevice) (a b : DeviceForm) → IsDeviceForm fs fates d a → IsDeviceForm fs fates e b → length e.config.interfaces ≡ length d.config.interfaces → length b.seats.items ≡ length a.seats.items
 same_count fs fates d e a b r s c = let m = r.seats.count in let n = s.seats.count in omega (arith, m, n, c)
@@ -210,7 +200,7 @@ module _ (p : Pair) (name : ℕ) (b : Both) (fs : Functions) (a : IsPair fs p) (
       let e = b.new.device.now in
       let x = found_in (λ z. z.name == name) w.network.devices d s.old_found in
       let y = found_in (λ z. z.name == name) v.network.devices e s.new_found in
-      alike_compared fs g set p.fates.now w v d e b.old.form.now b.new.form.now old_right new_right s.comparable agree (same_number d.name name x.1 ∙ sym (same_number e.name name y.1)) (t.old d x.0) (t.new e y.0) name s.old_found s.new_found
+      alike_compared fs g set p.fates.now w v d e b.old.form.now b.new.form.now old_right new_right s.comparable agree (same_number d.name name x.1 ∙ sym (same_number e.name name y.1)) (turned_by g set e.config.nat t.by (t.new e y.0)) name s.old_found s.new_found
 
 -- ---- the rules of devices
 abbrev pub AllNamed : List ℕ → List NetDevice → Type 0
@@ -219,8 +209,8 @@ AllNamed addresses ds = (d : NetDevice) → Contains ds d → AreNamed addresses
 pub more_named : (old new : List ℕ) (ds : List NetDevice) → HasMore old new → AllNamed old ds → AllNamed new ds
 more_named old new ds m a d c = named_more old new d.config.nat m (a d c)
 
-pub devices_turned : (fs : Functions) (set : ℕ) (addresses : List ℕ) (ds : List NetDevice) → AllNamed addresses ds → HasNamed fs addresses set → AreTurned ds fs set
-devices_turned fs set addresses ds a has d c = turned_by fs set addresses d.config.nat (a d c) has
+pub devices_have : (fs : Functions) (set : ℕ) (addresses : List ℕ) (ds : List NetDevice) → AllNamed addresses ds → HasNamed fs addresses set → HasAllRules ds fs set
+devices_have fs set addresses ds a has d c = has_rules fs set addresses d.config.nat has (a d c)
 
 -- ---- what is kept
 module _ (w : World) (fs : Functions) (set : ℕ) (turned : AreTurned w.network.devices fs set) where
@@ -235,7 +225,7 @@ module _ (w : World) (fs : Functions) (set : ℕ) (turned : AreTurned w.network.
 
   by_side : (b : Bool) (h g : Header) → IsHeader h → IsTurned fs set h g → IsTurned fs set h (cond b g h)
   by_side true h g v t = t
-  by_side false h g v t = record { fits = v; stays = inl refl }
+  by_side false h g v t = record { fits = v; stays = (λ i. i, λ i. i) }
 
   came_in : (p : Place) (seat : Seat) (h : Header) → seat_at w p ≡ Some seat → IsHeader h → IsTurned fs set h (coming_in seat h)
   came_in p seat h e v = by_side (is_outside seat.interface.side) h (from_outside seat.device.config.nat h) v ((turns p seat e).outside h v)
@@ -243,28 +233,24 @@ module _ (w : World) (fs : Functions) (set : ℕ) (turned : AreTurned w.network.
   went_out : (p : Place) (seat out : Seat) (h : Header) → seat_at w p ≡ Some seat → IsHeader h → IsTurned fs set h (going_out seat out h)
   went_out p seat out h e v = by_side (is_inside seat.interface.side && is_outside out.interface.side) h (from_inside seat.device.config.nat h) v ((turns p seat e).inside h v)
 
-  still_in : (h g : Header) → IsTurned fs set h g → InSet fs set h → InSet fs set g
-  still_in h g t i = elim t.stays [ inl e ↦ subst (InSet fs set) (sym e) i | inr n ↦ n.1 ]
+  passed : (p : Place) (seat out : Seat) (h : Header) → seat_at w p ≡ Some seat → IsHeader h → InSet fs set h ↔ InSet fs set (going_out seat out (coming_in seat h))
+  passed p seat out h e v =
+      let t = came_in p seat h e v in
+      let u = went_out p seat out (coming_in seat h) e t.fits in
+      (λ i. u.stays.0 (t.stays.0 i), λ i. t.stays.1 (u.stays.1 i))
 
   pub kept_in : IsKeptIn w fs set
-  kept_in p seat h e v i = still_in h (coming_in seat h) (came_in p seat h e v) i
+  kept_in p seat h e v i = (came_in p seat h e v).stays.0 i
 
   go_on : (P : Header → Type 0) (p q : Place) (h g : Header) (o : Option Seat) → seat_at w p ≡ o → ((seat out : Seat) → seat_at w p ≡ Some seat → P (going_out seat out (coming_in seat h))) → Contains (moves_at w o h) (move.Go q g) → P g
   go_on P p q h g None e f c = let t = in_one move.Drop (move.Go q g) c in absurd cc
   go_on P p q h g (Some seat) e f c = goes_on w seat P h q g (λ out. f seat out e) c
 
   pub kept : IsKept w fs set
-  kept p q h g v i c =
-      go_on (InSet fs set) p q h g (seat_at w p) refl (λ seat out e. let t = came_in p seat h e v in still_in (coming_in seat h) (going_out seat out (coming_in seat h)) (went_out p seat out (coming_in seat h) e t.fits) (still_in h (coming_in seat h) t i)) c
-
-  unmoved : (p : Place) (seat out : Seat) (h : Header) → seat_at w p ≡ Some seat → IsHeader h → (InSet fs set h → ⊥) → going_out seat out (coming_in seat h) ≡ h
-  unmoved p seat out h e v far =
-      ap (going_out seat out) (not_turned fs set h (coming_in seat h) far (came_in p seat h e v)) ∙ not_turned fs set h (going_out seat out h) far (went_out p seat out h e v)
+  kept p q h g v i c = go_on (InSet fs set) p q h g (seat_at w p) refl (λ seat out e. (passed p seat out h e v).0 i) c
 
   pub stays_out : (p q : Place) (h g : Header) → IsHeader h → (InSet fs set h → ⊥) → Contains (moves w p h) (move.Go q g) → InSet fs set g → ⊥
-  stays_out p q h g v far c i =
-      let t : g ≡ h = go_on (λ z. z ≡ h) p q h g (seat_at w p) refl (λ seat out e. unmoved p seat out h e v far) c in
-      far (subst (InSet fs set) t i)
+  stays_out p q h g v far c i = go_on (λ z. InSet fs set z → ⊥) p q h g (seat_at w p) refl (λ seat out e j. far ((passed p seat out h e v).1 j)) c i
 
 -- ---- all devices
 abbrev pub AllAlike : World → World → Functions → ℕ → List NetDevice → Type 0

@@ -13,9 +13,10 @@ use Rattle.net_types.specs.Routes.{is_enabled}
 use Rattle.net_types.specs.World.{World}
 use Rattle.set_walk.specs.Sets.{InSet}
 
--- the interfaces have one name, and both are IP-enabled or neither
+-- the interfaces have one name and one side, and both are IP-enabled or neither
 pub record IsSameSeat (x y : Interface) : Type 0 where
   pub name : x.name ≡ y.name
+  pub side : x.side ≡ y.side
   pub enabled : is_enabled x ≡ is_enabled y
 
 -- so is each interface and the one at its position
@@ -23,9 +24,10 @@ pub record HaveSameSeats (xs ys : List Interface) : Type 0 where
   pub count : length ys ≡ length xs
   pub each : (i : ℕ) (x y : Interface) → slice_get xs i ≡ Some x → slice_get ys i ≡ Some y → IsSameSeat x y
 
--- two devices with the same interfaces, which send alike
+-- two devices with the same translation rules and interfaces, which send alike
 pub record AreComparable (w v : World) (a b : NetDevice) : Type 0 where
   pub numbers : a.numbers ≡ b.numbers
+  pub rules : a.config.nat ≡ b.config.nat
   pub seats : HaveSameSeats a.config.interfaces b.config.interfaces
   pub sends : (n : ℕ) → Contains a.numbers n → SendAlike w v (record { device = a.name; interface = n })
 

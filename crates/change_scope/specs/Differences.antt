@@ -24,11 +24,15 @@ pub record SeatsAgree (f : Functions) (x y : SeatForm) (g : Functions) (set : �
 abbrev pub SeatsAgreeBelow : Functions → List SeatForm → List SeatForm → ℕ → Functions → ℕ → Type 0
 SeatsAgreeBelow f xs ys n g set = (i : ℕ) → i < n → (x y : SeatForm) → slice_get xs i ≡ Some x → slice_get ys i ≡ Some y → SeatsAgree f x y g set
 
--- so do the functions of two devices, but for those of translation
+-- so do the functions of two devices with the same translation rules
 pub record FormsAgree (f : Functions) (a b : DeviceForm) (g : Functions) (set : ℕ) : Type 0 where
   pub fates : AgreeBeyond f a.fates b.fates g set
   pub seats : SeatsAgreeBelow f a.seats.items b.seats.items (length a.seats.items) g set
 
--- the functions of the interfaces are in the table
+-- the functions of an interface are in the table
+pub record IsBelow (fs : Functions) (x : SeatForm) : Type 0 where
+  pub input : x.input < count_of fs
+  pub output : x.output < count_of fs
+
 abbrev pub AreBelow : Functions → List SeatForm → Type 0
-AreBelow fs xs = (i : ℕ) (x : SeatForm) → slice_get xs i ≡ Some x → (x.input < count_of fs) × (x.output < count_of fs)
+AreBelow fs xs = (i : ℕ) (x : SeatForm) → slice_get xs i ≡ Some x → IsBelow fs x

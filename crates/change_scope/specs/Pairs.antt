@@ -1,4 +1,4 @@
--- Two networks that are compiled in one table, and a set that has what translation may change.
+-- Two networks that are compiled in one table, and a set of destinations that has those of their translation rules.
 use Rattle.std.specs.Prelude.{ℕ, ◌≡◌, ◌<◌, ◌==◌, All, Some, find}
 use Rattle.cube_diagram.specs.Functions.{Functions, count_of}
 use Rattle.like_devices.specs.Like.{IsLike}
@@ -7,7 +7,7 @@ use Rattle.net_view.specs.Borrowed.{world_of}
 use Rattle.change_scope.specs.declared.scope.Both.{Both}
 use Rattle.change_scope.specs.declared.scope.Pair.{Pair}
 use Rattle.change_scope.specs.Devices.{AreComparable}
-use Rattle.change_scope.specs.Translated.{AreTurned}
+use Rattle.change_scope.specs.Translated.{ByDestination, HasAllRules}
 
 -- both are compiled in the table, and these devices are alike
 pub record IsPair (fs : Functions) (p : Pair) : Type 0 where
@@ -15,11 +15,12 @@ pub record IsPair (fs : Functions) (p : Pair) : Type 0 where
   pub new : IsNetworkForm fs p.fates.now p.new.now
   pub like : All (IsLike (world_of p.old.now.world) (world_of p.new.now.world)) p.like.now.keys
 
--- the set has what translation in both networks may change, and what becomes of it
+-- the set asks for destinations alone, and has the headers to each address of a rule of both networks
 pub record HasTurned (p : Pair) (fs : Functions) (set : ℕ) : Type 0 where
   pub below : set < count_of fs
-  pub old : AreTurned p.old.now.world.network.now.devices fs set
-  pub new : AreTurned p.new.now.world.network.now.devices fs set
+  pub by : ByDestination fs set
+  pub old : HasAllRules p.old.now.world.network.now.devices fs set
+  pub new : HasAllRules p.new.now.world.network.now.devices fs set
 
 -- the first device of this name in each network, with its forms; the two can be compared
 pub record AreBoth (p : Pair) (name : ℕ) (b : Both) : Type 0 where

@@ -1,15 +1,20 @@
-//! Headers to which functions of two compiled devices give different values.
+//! The headers with destinations to which functions of two compiled devices give different values.
 
 ghost use Rattle.std.specs.Prelude.{◌≡◌, ◌<◌, IfOk, length};
 ghost use Rattle.cube_diagram.specs.Functions.{Keeps, count_of};
-ghost use Rattle.change_scope.specs.Differences.{AgreeBeyond, AreBelow, FormsAgree, HasAll, SeatsAgree, SeatsAgreeBelow};
+ghost use Rattle.change_scope.specs.Differences.{AgreeBeyond, AreBelow, FormsAgree, HasAll, IsBelow, SeatsAgree, SeatsAgreeBelow};
+ghost use Rattle.change_scope.specs.Translated.{ByDestination};
 
 use cube_diagram::Diagrams;
 use net_forms::{DeviceForm, SeatForm};
 use net_types::NoMemory;
+use std::alloc::Global;
 
-/// The set, with the headers to which the functions of the two devices give different values.
+/// The set, with all headers to the destinations of those to which the functions of the two devices give different values.
+/// Lists ask for ports and sources too: a set of such headers would make the functions of every device's destinations
+/// larger.
 pub(crate) fn add_form(
+    alloc: Global,
     table: &mut Diagrams,
     a: &DeviceForm,
     b: &DeviceForm,
@@ -21,50 +26,80 @@ pub(crate) fn add_form(
     requires second_seats { AreBelow table.old b.now.seats.items }
     requires count { length b.now.seats.items ≡ length a.now.seats.items }
     requires set { set < count_of table.old }
+    requires by { ByDestination table.old set }
     ensures below { IfOk result (λ r. r < count_of table.new) }
+    ensures by { IfOk result (ByDestination table.new) }
     ensures all { IfOk result (HasAll table.old set table.new) }
     ensures agree { IfOk result (FormsAgree table.old a.now b.now table.new) }
     ensures kept { Keeps table.old table.new }
 {
-    let more = add_difference(table, a.fates, b.fates, set)?;
-    Ok(add_seats(table, &a.seats, &b.seats, more))
+    let more = add_difference(alloc, table, a.fates, b.fates, set)?;
+    let all = add_seats(alloc, table, &a.seats, &b.seats, more)?;
+    Ok(all)
 }
 
-// The set, or all headers where lists of two interfaces differ.
-fn add_seats(table: &Diagrams, a: &[SeatForm], b: &[SeatForm], set: u32) -> u32
+// The same of the lists of two interfaces at each position.
+fn add_seats(
+    alloc: Global,
+    table: &mut Diagrams,
+    a: &[SeatForm],
+    b: &[SeatForm],
+    set: u32,
+) -> Result<u32, NoMemory>
+    requires first { AreBelow table.old a.now }
+    requires second { AreBelow table.old b.now }
     requires count { length b.now ≡ length a.now }
-    requires set { set < count_of table.now }
-    ensures below { result < count_of table.now }
-    ensures all { HasAll table.now set table.now result }
-    ensures agree { SeatsAgreeBelow table.now a.now b.now (length a.now) table.now result }
+    requires set { set < count_of table.old }
+    requires by { ByDestination table.old set }
+    ensures below { IfOk result (λ r. r < count_of table.new) }
+    ensures by { IfOk result (ByDestination table.new) }
+    ensures all { IfOk result (HasAll table.old set table.new) }
+    ensures agree { IfOk result (SeatsAgreeBelow table.old a.now b.now (length a.now) table.new) }
+    ensures kept { Keeps table.old table.new }
 {
     let mut all = set;
     for i in 0..a.len() {
-        all = add_seat(table, a[i], b[i], all);
+        all = add_seat(alloc, table, a[i], b[i], all)?;
     }
-    all
+    Ok(all)
 }
 
-// The set, or all headers where lists of the two interfaces differ. A list asks for ports and sources too, and a set of such
-// headers would make the functions of every device's destinations larger.
-fn add_seat(table: &Diagrams, a: SeatForm, b: SeatForm, set: u32) -> u32
-    requires set { set < count_of table.now }
-    ensures below { result < count_of table.now }
-    ensures all { HasAll table.now set table.now result }
-    ensures agree { SeatsAgree table.now a b table.now result }
+fn add_seat(
+    alloc: Global,
+    table: &mut Diagrams,
+    a: SeatForm,
+    b: SeatForm,
+    set: u32,
+) -> Result<u32, NoMemory>
+    requires first { IsBelow table.old a }
+    requires second { IsBelow table.old b }
+    requires set { set < count_of table.old }
+    requires by { ByDestination table.old set }
+    ensures below { IfOk result (λ r. r < count_of table.new) }
+    ensures by { IfOk result (ByDestination table.new) }
+    ensures all { IfOk result (HasAll table.old set table.new) }
+    ensures agree { IfOk result (SeatsAgree table.old a b table.new) }
+    ensures kept { Keeps table.old table.new }
 {
-    if a.input == b.input && a.output == b.output {
-        return set;
-    }
-    table.everything()
+    let more = add_difference(alloc, table, a.input, b.input, set)?;
+    let all = add_difference(alloc, table, a.output, b.output, more)?;
+    Ok(all)
 }
 
-// The set, with the headers to which the two functions give different values.
-fn add_difference(table: &mut Diagrams, a: u32, b: u32, set: u32) -> Result<u32, NoMemory>
+// The set, with all headers to the destinations of those to which the two functions give different values.
+fn add_difference(
+    alloc: Global,
+    table: &mut Diagrams,
+    a: u32,
+    b: u32,
+    set: u32,
+) -> Result<u32, NoMemory>
     requires first { a < count_of table.old }
     requires second { b < count_of table.old }
     requires set { set < count_of table.old }
+    requires by { ByDestination table.old set }
     ensures below { IfOk result (λ r. r < count_of table.new) }
+    ensures by { IfOk result (ByDestination table.new) }
     ensures all { IfOk result (HasAll table.old set table.new) }
     ensures agree { IfOk result (AgreeBeyond table.old a b table.new) }
     ensures kept { Keeps table.old table.new }
@@ -73,6 +108,7 @@ fn add_difference(table: &mut Diagrams, a: u32, b: u32, set: u32) -> Result<u32,
         return Ok(set);
     }
     let different = table.difference(a, b)?;
-    let all = table.first_of(&[set, different])?;
+    let reached = table.by_destination(alloc, different)?;
+    let all = table.first_of(&[set, reached])?;
     Ok(all)
 }

@@ -8,14 +8,14 @@ ghost use Rattle.net_types.specs.declared.network.NetDevice.{NetDevice};
 ghost use Rattle.net_view.specs.Borrowed.{world_of};
 ghost use Rattle.set_walk.specs.Scopes.{IsScope};
 ghost use Rattle.change_scope.specs.Differences.{HasAll};
-ghost use Rattle.change_scope.specs.Translated.{AreTurned};
+ghost use Rattle.change_scope.specs.Translated.{ByDestination, HasAllRules};
 ghost use Rattle.change_scope.specs.Pairs.{AreBoth, HasTurned, IsPair};
 ghost use Rattle.change_scope.specs.Devices.{AreAlikeAt};
 
 use crate::addresses::add_addresses;
 use crate::devices::are_comparable;
 use crate::differences::add_form;
-use crate::named::headers_named;
+use crate::named::headers_to;
 use cube_diagram::Diagrams;
 use device_fates::Fates;
 use indexmap::IndexSet;
@@ -27,6 +27,7 @@ use std::alloc::Global;
 /// Two networks that are compiled in one table, and the names of devices that they have alike.
 #[derive(Clone, Copy)]
 pub(crate) struct Pair<'a> {
+    pub(crate) alloc: Global,
     pub(crate) fates: &'a Fates,
     pub(crate) old: &'a NetworkForm<'a>,
     pub(crate) new: &'a NetworkForm<'a>,
@@ -44,8 +45,9 @@ pub(crate) struct Both<'a> {
 /// names of devices that are alike in both networks. The table is the one in which the networks are compiled, or a copy of
 /// it that may have grown since: the sets are added to it, and no function that is there is changed.
 ///
-/// It is found from destinations alone: where a device is in one network alone, has other interfaces or other lists, or sends
-/// otherwise, and where a device of either network translates addresses, it has all headers.
+/// It is found from destinations alone, and has all headers to each of its destinations, so that what a rule makes of a
+/// header's source doesn't matter. Each address of a translation rule is in it. Where a device is in one network alone, has
+/// other interfaces or rules, or sends otherwise, it has all headers.
 ///
 /// # Errors
 ///
@@ -65,6 +67,7 @@ pub fn scope_of<'a>(
     ensures kept { Keeps table.old table.new }
 {
     let pair = Pair {
+        alloc,
         fates,
         old,
         new,
@@ -78,21 +81,24 @@ pub fn scope_of<'a>(
     Ok(all)
 }
 
-// The headers that a translation rule of one of the devices may change, and what it may make of them.
+// The headers to the addresses of the translation rules of these devices.
 fn translated(
     alloc: Global,
-    table: &Diagrams,
+    table: &mut Diagrams,
     before: &[NetDevice],
     after: &[NetDevice],
 ) -> Result<u32, NoMemory>
-    ensures below { IfOk result (λ r. r < count_of table.now) }
-    ensures old { IfOk result (AreTurned before.now table.now) }
-    ensures new { IfOk result (AreTurned after.now table.now) }
+    ensures below { IfOk result (λ r. r < count_of table.new) }
+    ensures by { IfOk result (ByDestination table.new) }
+    ensures old { IfOk result (HasAllRules before.now table.new) }
+    ensures new { IfOk result (HasAllRules after.now table.new) }
+    ensures kept { Keeps table.old table.new }
 {
     let mut addresses = IndexSet::new(alloc);
     add_addresses(before, &mut addresses)?;
     add_addresses(after, &mut addresses)?;
-    Ok(headers_named(table, addresses.as_slice()))
+    let set = headers_to(alloc, table, addresses.as_slice())?;
+    Ok(set)
 }
 
 // The set, with the headers with which devices of these names don't do the same.
@@ -146,7 +152,7 @@ fn add_unlike(pair: Pair, table: &mut Diagrams, name: u32, set: u32) -> Result<u
     let Some(both) = both_named(pair, name) else {
         return Ok(table.everything());
     };
-    let all = add_form(table, both.old.form, both.new.form, set)?;
+    let all = add_form(pair.alloc, table, both.old.form, both.new.form, set)?;
     Ok(all)
 }
 

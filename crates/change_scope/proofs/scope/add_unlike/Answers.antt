@@ -1,5 +1,5 @@
 use Rattle.net_view.specs.Borrowed.{world_of}
-use Rattle.change_scope.proofs.ScopeLemmas.{alike_in_everything, all_in_everything, both_alike, counts, form_below, indexed, more_has, new_right, old_right}
+use Rattle.change_scope.proofs.ScopeLemmas.{alike_in_everything, all_in_everything, both_alike, counts, everything_by, form_below, indexed, more_has, new_right, old_right}
 use Rattle.change_scope.proofs.scope.add_unlike.Goals as goal
 
 pub both_named-requires-clause-old : goal.both_named-requires-clause-old
@@ -11,7 +11,7 @@ both_named-requires-clause-new c = indexed c.args.table.now c.args.pair.fates.no
 pub returns-in_default-clause-turned : goal.returns-in_default-clause-turned
 returns-in_default-clause-turned c =
     let f = c.args.table.now in
-    more_has f f c.args.set c.everything.result c.args.pair (all_in_everything f c.args.set c.everything.result c.everything.ensures.exact) c.everything.ensures.below c.requires.turned
+    more_has f f c.args.set c.everything.result c.args.pair (all_in_everything f c.args.set c.everything.result c.everything.ensures.exact) c.everything.ensures.below (everything_by f c.everything.result c.everything.ensures.exact) c.requires.turned
 
 pub returns-in_default-clause-all : goal.returns-in_default-clause-all
 returns-in_default-clause-all c = all_in_everything c.args.table.now c.args.set c.everything.result c.everything.ensures.exact
@@ -42,13 +42,16 @@ add_form-requires-clause-count c = counts c.args.pair c.args.name c.in-Some.both
 pub add_form-requires-clause-set : goal.add_form-requires-clause-set
 add_form-requires-clause-set c = c.requires.turned.below
 
+pub add_form-requires-clause-by : goal.add_form-requires-clause-by
+add_form-requires-clause-by c = c.requires.turned.by
+
 pub returns-clause-turned : goal.returns-clause-turned
 returns-clause-turned c =
     let o = c.in_ok-all.ensures in
-    more_has c.args.table.now c.add_form.new.table c.args.set c.in_ok-all.all c.args.pair o.all o.below c.requires.turned
+    more_has c.args.table.now c.add_form.new.table c.args.set c.in_ok-all.all c.args.pair o.all o.below o.by c.requires.turned
 
 pub returns-clause-alike : goal.returns-clause-alike
 returns-clause-alike c =
     let o = c.in_ok-all.ensures in
     let g = c.add_form.new.table in
-    both_alike c.args.pair c.args.name c.in-Some.both c.args.table.now c.requires.pair c.in-Some.ensures g c.in_ok-all.all o.agree (more_has c.args.table.now g c.args.set c.in_ok-all.all c.args.pair o.all o.below c.requires.turned)
+    both_alike c.args.pair c.args.name c.in-Some.both c.args.table.now c.requires.pair c.in-Some.ensures g c.in_ok-all.all o.agree (more_has c.args.table.now g c.args.set c.in_ok-all.all c.args.pair o.all o.below o.by c.requires.turned)
