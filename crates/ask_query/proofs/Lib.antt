@@ -1,0 +1,8 @@
+pub mod QuestionLaws
+pub mod ReachingLemmas
+pub mod WholeLemmas
+pub mod WayLemmas
+pub mod LoopLemmas
+pub mod AnswerLemmas
+pub mod ReadingLemmas
+pub mod TextLemmas

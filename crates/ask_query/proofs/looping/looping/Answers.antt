@@ -1,0 +1,18 @@
+use Rattle.std.proofs.Common.{◌≡◌, List, Some, slice_get, sym, subst}
+use Rattle.net_view.specs.Borrowed.{world_of}
+use Rattle.ask_query.proofs.WholeLemmas.{whole_kept}
+use Rattle.ask_query.specs.declared.looping.Level.{Level}
+use Rattle.ask_query.specs.Looping.{AreLevels}
+use Rattle.ask_query.proofs.looping.looping.Goals as goal
+
+pub looping_in-requires-clause-net : goal.looping_in-requires-clause-net
+looping_in-requires-clause-net c = whole_kept c.args.table.now c.levels_of.new.table c.args.net.now c.in_ok-levels.ensures.kept c.requires.net
+
+pub looping_in-requires-clause-levels : goal.looping_in-requires-clause-levels
+looping_in-requires-clause-levels c n l e = (c.in_ok-levels.ensures.levels n l (subst (λ (ls : List Level). slice_get ls n ≡ Some l) c.deref.ensures.value e)).told
+
+pub returns-clause-exact : goal.returns-clause-exact
+returns-clause-exact c =
+    let w = world_of c.args.net.now.world in
+    let f = c.args.table.now in
+    c.in_ok-set.ensures.exact f c.args.domain c.args.place (subst (λ ls. AreLevels w f c.args.domain c.args.place c.levels_of.new.table ls) (sym c.deref.ensures.value) c.in_ok-levels.ensures.levels)

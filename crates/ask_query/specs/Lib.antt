@@ -1,0 +1,10 @@
+pub mod Questions
+pub mod Outcomes
+pub mod Reaching
+pub mod WholeNets
+pub mod Breaking
+pub mod Looping
+pub mod Refusals
+pub mod Fields
+pub mod Reading
+pub mod AnswerText

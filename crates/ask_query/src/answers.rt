@@ -1,0 +1,244 @@
+//! The answers to questions on a network, by walks of sets of headers.
+
+ghost use Rattle.std.specs.Prelude.{◌≡◌, ◌≤◌, ◌<◌, ℕ, IfOk, OnOk};
+ghost use Rattle.hdr_bits.specs.declared.header.Header.{Header};
+ghost use Rattle.hdr_bits.specs.HeaderBits.{number, IsHeader};
+ghost use Rattle.hdr_bits.specs.CubeBits.{IsIn};
+ghost use Rattle.cube_diagram.specs.Functions.{Keeps, count_of};
+ghost use Rattle.indexmap.specs.IndexMap.{get};
+ghost use Rattle.net_types.specs.World.{World, same_place};
+ghost use Rattle.net_view.specs.Borrowed.{world_of};
+ghost use Rattle.set_walk.specs.Sets.{InSet, IsSetOf};
+ghost use Rattle.set_walk.specs.Outcomes.{AreEndsBelow};
+ghost use Rattle.ask_query.specs.declared.question.Question.{Question};
+ghost use Rattle.ask_query.specs.Questions.{IsAnswer, AreAnswers, ReachesNamed, Loops};
+ghost use Rattle.ask_query.specs.Reaching.{EndsNamed};
+ghost use Rattle.ask_query.specs.WholeNets.{IsWholeNet};
+ghost use Rattle.ask_query.specs.Breaking.{AreBreaking, HasFilter, HaveFilters, AreWalks};
+
+use crate::looping::looping;
+use crate::reaching::headers_to;
+use crate::{Answer, Question, QuestionKind};
+use cube_diagram::Diagrams;
+use hdr_bits::Cube;
+use indexmap::IndexMap;
+use net_types::{NoMemory, Place};
+use set_walk::sets::{both, either, without};
+use set_walk::{Net, OutcomeSet, labels};
+use std::alloc::Global;
+
+/// The ends of all walks from a place.
+#[derive(Drop)]
+pub struct WalkEnds {
+    pub ends: Vec<OutcomeSet>,
+}
+
+/// The answers to the questions, in their order. From each first place the headers that some question asks of are walked once.
+pub(crate) fn answers_by(
+    alloc: Global,
+    table: &mut Diagrams,
+    net: &Net,
+    questions: &[Question],
+    ttl: u8,
+) -> Result<Vec<Answer>, NoMemory>
+    requires net { IsWholeNet table.old net.now }
+    requires ttl { 1 ≤ ttl }
+    ensures { IfOk result (λ answers. AreAnswers (world_of net.now.world) ttl questions.now answers.items) }
+{
+    let domain = filtered(table, questions)?;
+    let answers = answers_within(alloc, table, net, domain, questions, ttl)?;
+    Ok(answers)
+}
+
+// The same, where the domain has the headers of all filters.
+fn answers_within(
+    alloc: Global,
+    table: &mut Diagrams,
+    net: &Net,
+    domain: u32,
+    questions: &[Question],
+    ttl: u8,
+) -> Result<Vec<Answer>, NoMemory>
+    requires net { IsWholeNet table.old net.now }
+    requires domain { domain < count_of table.old }
+    requires filters { HaveFilters table.old domain questions.now }
+    requires ttl { 1 ≤ ttl }
+    ensures { IfOk result (λ answers. AreAnswers (world_of net.now.world) ttl questions.now answers.items) }
+{
+    let mut walks = IndexMap::new(alloc);
+    let mut answers = Vec::new(alloc);
+    for question in questions {
+        let breaking = breaking(alloc, table, net, domain, &mut walks, question, ttl)?;
+        answers.push(answer_by(table, breaking))?;
+    }
+    Ok(answers)
+}
+
+// The answer to a question of which these headers are those that break it.
+fn answer_by(table: &Diagrams, breaking: u32) -> Answer
+    requires { breaking < count_of table.now }
+    ensures { (w : World) (t : ℕ) (q : Question) → AreBreaking w t q table.now breaking → IsAnswer w t q result }
+{
+    match table.least(breaking) {
+        None => Answer::Holds,
+        Some(header) => Answer::Fails { header },
+    }
+}
+
+// The headers of the filter that break the question.
+fn breaking(
+    alloc: Global,
+    table: &mut Diagrams,
+    net: &Net,
+    domain: u32,
+    walks: &mut IndexMap<Place, WalkEnds>,
+    question: &Question,
+    ttl: u8,
+) -> Result<u32, NoMemory>
+    requires net { IsWholeNet table.old net.now }
+    requires domain { domain < count_of table.old }
+    requires filter { HasFilter table.old domain question.now }
+    requires walks { AreWalks (world_of net.now.world) ttl table.old domain (get same_place walks.old) }
+    requires ttl { 1 ≤ ttl }
+    ensures below { IfOk result (λ r. r < count_of table.new) }
+    ensures exact { IfOk result (AreBreaking (world_of net.now.world) ttl question.now table.new) }
+    ensures walks { OnOk result (AreWalks (world_of net.now.world) ttl table.new domain (get same_place walks.new)) }
+    ensures kept { Keeps table.old table.new }
+{
+    match question.kind {
+        QuestionKind::Reach => {
+            let set = not_reaching(alloc, table, net, domain, walks, question, ttl)?;
+            Ok(set)
+        }
+        QuestionKind::Isolate => {
+            let set = reaching(alloc, table, net, domain, walks, question, ttl)?;
+            Ok(set)
+        }
+        QuestionKind::NoLoop => {
+            let set = filtered_loops(alloc, table, net, question, ttl)?;
+            Ok(set)
+        }
+    }
+}
+
+// The headers of the filter that don't reach the place.
+fn not_reaching(
+    alloc: Global,
+    table: &mut Diagrams,
+    net: &Net,
+    domain: u32,
+    walks: &mut IndexMap<Place, WalkEnds>,
+    question: &Question,
+    ttl: u8,
+) -> Result<u32, NoMemory>
+    requires net { IsWholeNet table.old net.now }
+    requires domain { domain < count_of table.old }
+    requires filter { HasFilter table.old domain question.now }
+    requires walks { AreWalks (world_of net.now.world) ttl table.old domain (get same_place walks.old) }
+    ensures below { IfOk result (λ r. r < count_of table.new) }
+    ensures exact { IfOk result (λ r. IsSetOf table.new r (λ h. IsIn question.now.filter (number h) × (ReachesNamed (world_of net.now.world) ttl question.now.from question.now.to h → ⊥))) }
+    ensures walks { OnOk result (AreWalks (world_of net.now.world) ttl table.new domain (get same_place walks.new)) }
+    ensures kept { Keeps table.old table.new }
+{
+    let those = reaching(alloc, table, net, domain, walks, question, ttl)?;
+    let filter = filter_set(table, &question.filter)?;
+    let set = without(table, filter, those)?;
+    Ok(set)
+}
+
+// The headers of the filter that reach the place.
+fn reaching(
+    alloc: Global,
+    table: &mut Diagrams,
+    net: &Net,
+    domain: u32,
+    walks: &mut IndexMap<Place, WalkEnds>,
+    question: &Question,
+    ttl: u8,
+) -> Result<u32, NoMemory>
+    requires net { IsWholeNet table.old net.now }
+    requires domain { domain < count_of table.old }
+    requires filter { HasFilter table.old domain question.now }
+    requires walks { AreWalks (world_of net.now.world) ttl table.old domain (get same_place walks.old) }
+    ensures below { IfOk result (λ r. r < count_of table.new) }
+    ensures exact { IfOk result (λ r. IsSetOf table.new r (λ h. IsIn question.now.filter (number h) × ReachesNamed (world_of net.now.world) ttl question.now.from question.now.to h)) }
+    ensures walks { OnOk result (AreWalks (world_of net.now.world) ttl table.new domain (get same_place walks.new)) }
+    ensures kept { Keeps table.old table.new }
+{
+    if let Some(walk) = walks.get(&question.from) {
+        let set = ending(table, &walk.ends, question)?;
+        return Ok(set);
+    }
+    let ends = labels(alloc, table, net, question.from, domain, ttl)?;
+    let set = ending(table, &ends, question)?;
+    walks.insert(question.from, WalkEnds { ends })?;
+    Ok(set)
+}
+
+// The headers of the filter that have one of these ends at the place.
+fn ending(table: &mut Diagrams, ends: &[OutcomeSet], question: &Question) -> Result<u32, NoMemory>
+    requires ends { AreEndsBelow table.old ends.now }
+    ensures below { IfOk result (λ r. r < count_of table.new) }
+    ensures exact { IfOk result (λ r. IsSetOf table.new r (λ h. IsIn question.now.filter (number h) × EndsNamed table.old ends.now question.now.to h)) }
+    ensures kept { Keeps table.old table.new }
+{
+    let there = headers_to(table, ends, question.to)?;
+    let filter = filter_set(table, &question.filter)?;
+    let set = both(table, filter, there)?;
+    Ok(set)
+}
+
+// The headers of the filter that loop.
+fn filtered_loops(
+    alloc: Global,
+    table: &mut Diagrams,
+    net: &Net,
+    question: &Question,
+    ttl: u8,
+) -> Result<u32, NoMemory>
+    requires net { IsWholeNet table.old net.now }
+    requires ttl { 1 ≤ ttl }
+    ensures below { IfOk result (λ r. r < count_of table.new) }
+    ensures exact { IfOk result (λ r. IsSetOf table.new r (λ h. IsIn question.now.filter (number h) × Loops (world_of net.now.world) ttl question.now.from h)) }
+    ensures kept { Keeps table.old table.new }
+{
+    let filter = filter_set(table, &question.filter)?;
+    let set = looping(alloc, table, net, question.from, filter, ttl)?;
+    Ok(set)
+}
+
+// The headers of all filters.
+fn filtered(table: &mut Diagrams, questions: &[Question]) -> Result<u32, NoMemory>
+    ensures below { IfOk result (λ r. r < count_of table.new) }
+    ensures filters { IfOk result (λ r. HaveFilters table.new r questions.now) }
+    ensures kept { Keeps table.old table.new }
+{
+    let mut all = table.nothing();
+    for question in questions {
+        all = with_filter(table, question, all)?;
+    }
+    Ok(all)
+}
+
+// The set, with the headers of the question's filter.
+fn with_filter(table: &mut Diagrams, question: &Question, set: u32) -> Result<u32, NoMemory>
+    requires { set < count_of table.old }
+    ensures below { IfOk result (λ r. r < count_of table.new) }
+    ensures filter { IfOk result (λ r. HasFilter table.new r question.now) }
+    ensures more { IfOk result (λ r. (h : Header) → IsHeader h → InSet table.old set h → InSet table.new r h) }
+    ensures kept { Keeps table.old table.new }
+{
+    let filter = filter_set(table, &question.filter)?;
+    let all = either(table, set, filter)?;
+    Ok(all)
+}
+
+/// The headers of a filter.
+fn filter_set(table: &mut Diagrams, filter: &Cube) -> Result<u32, NoMemory>
+    ensures below { IfOk result (λ r. r < count_of table.new) }
+    ensures exact { IfOk result (λ r. IsSetOf table.new r (λ h. IsIn filter.now (number h))) }
+    ensures kept { Keeps table.old table.new }
+{
+    let set = table.add_entry(&[*filter], 1)?;
+    Ok(set)
+}
