@@ -3,7 +3,7 @@
 //! The words are the folder of the old network, that of the new one, the link table, and `time` where the times are wanted
 //! too. It goes through the stages as the comparison does: the networks are compiled; each place gets its ways; the
 //! headers that may meet a difference are found; and these are walked in both networks, from each ingress. Then the networks
-//! are compared as a whole, for the rows.
+//! are compared as a whole, for the rows, by 1, 2 and 4 workers.
 //!
 //! In the networks of `data` the second router has lost a subnet of 24 bits, which is one row.
 #![tactic(auto)]
@@ -22,8 +22,11 @@ use net_types::{Loaded, NoMemory, Section};
 use net_view::WorldRef;
 use reading::{is_right, loaded, number_few, table_of};
 use stages::{Clock, Stages, TTL, measure};
+use std::sync::Wait;
+use std::thread::Threads;
 use std::time::Instant;
 use std::{env, io};
+use steal_pool::OpenGate;
 use topo_links::LinkTable;
 
 // The words of the command line, without the program's name.
@@ -40,12 +43,13 @@ fn main(rt: HostRuntime) -> io::Result<()> {
     let [old, new, links, rest @ ..] = words.as_slice() else {
         return println!(rt; "two folders and a link table are wanted");
     };
-    measure_files(&rt, old, new, links, !rest.is_empty())
+    measure_files(&rt, &rt, old, new, links, !rest.is_empty())
 }
 
 // Reads the networks, prints the counts, and the times where they are wanted.
-fn measure_files(
+fn measure_files<R: Threads + Wait + Sync>(
     rt: &HostRuntime,
+    threads: &R,
     old: &str,
     new: &str,
     links: &str,
@@ -55,19 +59,19 @@ fn measure_files(
         return println!(rt; "the networks can't be read");
     };
     let stages = measure_networks(rt, &numbered)?;
-    let rows = measure_rows(rt, &numbered)?;
     if timed {
-        print_times(rt, reading, &stages, rows)?;
+        print_times(rt, reading, &stages)?;
+    }
+    for workers in [1, 2, 4] {
+        let time = measure_rows(rt, threads, &numbered, workers)?;
+        if timed {
+            println!(rt; "compare {time} us by {workers} workers")?;
+        }
     }
     Ok(())
 }
 
-fn print_times(
-    rt: &HostRuntime,
-    reading: ReadTimes,
-    stages: &Stages,
-    compared: u128,
-) -> io::Result<()> {
+fn print_times(rt: &HostRuntime, reading: ReadTimes, stages: &Stages) -> io::Result<()> {
     let ReadTimes {
         loaded,
         checked,
@@ -86,8 +90,7 @@ fn print_times(
         .end
         .saturating_sub(stages.walks.reached.end);
     println!(rt; "load {loaded} us, check {checked} us, number {numbered} us")?;
-    println!(rt; "compile {compiled} us, ways {ways} us, reach {reach} us, walks {walks} us")?;
-    println!(rt; "compare {compared} us")
+    println!(rt; "compile {compiled} us, ways {ways} us, reach {reach} us, walks {walks} us")
 }
 
 // Microseconds: of reading the three texts, of checking the table, of numbering the names.
@@ -183,12 +186,27 @@ fn print_stages(rt: &HostRuntime, stages: &Stages) -> io::Result<()> {
     println!(rt; "labels {labels}")
 }
 
-// Compares the networks, prints how many rows there are, and answers the microseconds that it took.
-fn measure_rows(rt: &HostRuntime, numbered: &Numbered) -> io::Result<u128> {
+// Compares the networks by so many workers, prints how many rows there are, and answers the microseconds that it took.
+fn measure_rows<R: Threads + Wait + Sync>(
+    rt: &HostRuntime,
+    threads: &R,
+    numbered: &Numbered,
+    workers: u32,
+) -> io::Result<u128> {
     let start = Instant::now(rt)?;
     let old = &numbered.old;
     let new = &numbered.new;
-    let compared = compare(rt.alloc(), old, new, &numbered.links, TTL);
+    let workers = workers.clamp(1, 64);
+    let compared = compare(
+        threads,
+        rt.alloc(),
+        old,
+        new,
+        &numbered.links,
+        TTL,
+        workers,
+        &OpenGate,
+    );
     let sections = compared.map_err(out_of_memory)?;
     print_rows(rt, &start, &sections)
 }

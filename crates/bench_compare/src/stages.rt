@@ -11,13 +11,13 @@ ghost use Rattle.place_ways.specs.Places.{ArePlaceWays};
 ghost use Rattle.set_walk.specs.Nets.{IsNet};
 ghost use Rattle.set_walk.specs.Sets.{IsWithin};
 
-use change_scope::scope_of;
 use cube_diagram::Diagrams;
 use difference_reach::Reach;
+use net_compare::{ScopedWays, scoped_ways};
 use net_forms::{Prepared, PreparedParts, Tables};
 use net_types::{NoMemory, Place};
 use net_view::WorldRef;
-use place_ways::{BothWays, ways_of_both};
+use place_ways::BothWays;
 use set_walk::{Net, label_numbers};
 use std::time::Instant;
 
@@ -111,16 +111,14 @@ fn measure_parts(clock: Clock, parts: PreparedParts, ingress: &[Place]) -> Resul
     } = tables;
     let compiled = clock.stage(&diagrams);
     let alloc = clock.rt.alloc();
-    let scope = scope_of(alloc, &fates, &old, &new, &like, &mut diagrams)?;
-    let ways = ways_of_both(alloc, &fates, &old, &new, &like, scope, &mut diagrams)?;
+    let scoped = scoped_ways(alloc, &fates, &old, &new, &like, &mut diagrams)?;
     let stages = measure_ways(
         clock,
         compiled,
         &mut diagrams,
         old.world,
         new.world,
-        scope,
-        &ways,
+        &scoped,
         ingress,
     )?;
     Ok(stages)
@@ -132,24 +130,24 @@ fn measure_ways(
     table: &mut Diagrams,
     before: WorldRef,
     after: WorldRef,
-    scope: u32,
-    ways: &BothWays,
+    scoped: &ScopedWays,
     ingress: &[Place],
 ) -> Result<Stages, NoMemory>
-    requires old { ArePlaceWays (world_of before) table.old scope ways.now.lists.items (get same_place ways.now.old) }
-    requires new { ArePlaceWays (world_of after) table.old scope ways.now.lists.items (get same_place ways.now.new) }
+    requires old { ArePlaceWays (world_of before) table.old scoped.now.scope scoped.now.ways.lists.items (get same_place scoped.now.ways.old) }
+    requires new { ArePlaceWays (world_of after) table.old scoped.now.scope scoped.now.ways.lists.items (get same_place scoped.now.ways.new) }
 {
+    let ways = &scoped.ways;
     let old = Net {
         world: before,
         places: &ways.old,
         lists: &ways.lists,
-        scope,
+        scope: scoped.scope,
     };
     let new = Net {
         world: after,
         places: &ways.new,
         lists: &ways.lists,
-        scope,
+        scope: scoped.scope,
     };
     let with_ways = clock.stage(table);
     let walks = walk_all(clock, table, &old, &new, ingress)?;

@@ -1,13 +1,7 @@
 -- From the labels of the headers of a domain to the pair of labels of every header.
-use Rattle.std.proofs.Common.{ℕ, ◌≡◌, ◌≤◌, ◌<◌, ◌^◌, ◌∙◌, List, [], Option, Some, None, inl, inr, refl, sym, ap, subst, true≢false, arith}
+use Rattle.std.proofs.Common.{ℕ, ◌≡◌, ◌≤◌, ◌<◌, ◌^◌, ◌∙◌, List, [], Option, Some, None, inl, inr, refl, sym, ap, subst}
 use Rattle.hdr_bits.specs.HeaderBits.{number, header_of}
-use Rattle.hdr_bits.specs.declared.cube.Cube.{Cube}
-use Rattle.hdr_bits.specs.Rows.{AreRows, IsRow}
-use Rattle.hdr_bits.proofs.Masks.{in_from_mask}
 use Rattle.hdr_bits.proofs.Numbers.{number-below, number-header_of, header_of-is_header}
-use Rattle.std.specs.Prelude.{is_some}
-use Rattle.std.proofs.lemmas.Nat.{and_le_r}
-use Rattle.std.proofs.lemmas.List.Elements.{All-nil}
 use Rattle.cube_diagram.specs.Functions.{Functions, GivesNothing, Keeps, count_of, value_at}
 use Rattle.net_types.specs.declared.label.Outcome.{Outcome}
 use Rattle.net_types.specs.declared.network.Place.{Place}
@@ -83,17 +77,5 @@ some_outcomes w p t start domain f n one a = have_outcomes w p t start domain f 
 
 -- ---- where the domain has no header
 
-own_bits : (c : Cube) → c.bits < 2 ^ 112
-own_bits c = let m = and_le_r c.bits c.fixed in omega (arith, m, c.digits, c.below)
-
--- a function that gives nothing has no rows
-no_rows : (f : ℕ → Option (List Outcome × List Outcome)) → ((h : ℕ) → h < 2 ^ 112 → f h ≡ None) → AreRows f []
-no_rows f e =
-    record {
-      each = All-nil (IsRow f);
-      every = λ c r. absurd (true≢false (sym (r.something c.bits (own_bits c) (in_from_mask c c.bits c.digits)) ∙ ap is_some (e c.bits (own_bits c))));
-      ordered = λ i j d l k. absurd (omega arith);
-    }
-
-pub nothing_affected : (v w : World) (p : Place) (t : ℕ) (start : Functions) (domain : ℕ) → AreAlikeOutside v w t p start domain → GivesNothing (value_at start domain) → AreRows (affected v w t p) []
-nothing_affected v w p t start domain alike none = no_rows (affected v w t p) (λ h l. none_if_same (label v t p (header_of h)) (label w t p (header_of h)) (alike (header_of h) (header_of-is_header h) (no_header start domain (header_of h) none (number-below (header_of h) (header_of-is_header h)))))
+pub none_affected : (v w : World) (p : Place) (t : ℕ) (start : Functions) (domain : ℕ) → AreAlikeOutside v w t p start domain → GivesNothing (value_at start domain) → (h : ℕ) → h < 2 ^ 112 → affected v w t p h ≡ None
+none_affected v w p t start domain alike none h l = none_if_same (label v t p (header_of h)) (label w t p (header_of h)) (alike (header_of h) (header_of-is_header h) (no_header start domain (header_of h) none (number-below (header_of h) (header_of-is_header h))))

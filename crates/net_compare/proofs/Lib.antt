@@ -1,3 +1,4 @@
-pub mod NumberLemmas
 pub mod RowLemmas
 pub mod IngressLemmas
+pub mod SectionLemmas
+pub mod TwinLemmas

@@ -1,3 +1,3 @@
 pub mod Networks
-pub mod Numbers
+pub mod Slots
 pub mod Rows

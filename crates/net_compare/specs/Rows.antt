@@ -1,15 +1,11 @@
--- From labels as numbers to the rows of the headers whose labels differ.
-use Rattle.std.specs.Prelude.{ℕ, ◌≡◌, ◌≢◌, ◌<◌, ◌^◌, List, [], Option, Some, None, slice_get, option_map}
-use Rattle.hdr_bits.specs.declared.cube.Cube.{Cube}
+-- From labels as numbers to the pairs of labels that differ.
+use Rattle.std.specs.Prelude.{ℕ, ◌≡◌, ◌≢◌, ◌<◌, ◌^◌, List, [], Option, Some, None, slice_get}
 use Rattle.hdr_bits.specs.declared.header.Header.{Header}
 use Rattle.hdr_bits.specs.HeaderBits.{IsHeader}
-use Rattle.hdr_bits.specs.CubeBits.{IsIn}
-use Rattle.cube_alg.specs.declared.cut.Piece.{Piece}
 use Rattle.cube_diagram.specs.declared.paired.ValuePair.{ValuePair}
 use Rattle.cube_diagram.specs.Functions.{Functions, value_at}
 use Rattle.net_types.specs.declared.label.Outcome.{Outcome}
 use Rattle.net_types.specs.declared.network.Place.{Place}
-use Rattle.net_types.specs.declared.network.Row.{Row}
 use Rattle.net_types.specs.World.{World}
 use Rattle.net_types.specs.Walks.{label}
 use Rattle.net_types.specs.Order.{in_order, outcome_cmp}
@@ -18,7 +14,7 @@ use Rattle.set_walk.specs.declared.numbers.OutcomeList.{OutcomeList}
 use Rattle.set_walk.specs.declared.numbers.LabelNumbers.{LabelNumbers}
 use Rattle.set_walk.specs.Numbers.{outcomes_at}
 use Rattle.set_walk.specs.Sets.{InSet}
-use Rattle.net_compare.specs.Numbers.{IsNumberOf}
+use Rattle.pair_rows.specs.Pairs.{IsNumberOf}
 
 -- the label that stands at a number
 abbrev pub label_at : List OutcomeList → Option ℕ → Option (List Outcome)
@@ -64,17 +60,6 @@ pub record IsToldAt (old new : List OutcomeList) (pairs : List (List Outcome × 
 
 abbrev pub AreTold : List OutcomeList → List OutcomeList → List (List Outcome × List Outcome) → List ValuePair → List (Option ℕ) → Type 0
 AreTold old new pairs numbers told = (n : ℕ) (two : ValuePair) → slice_get numbers n ≡ Some two → IsToldAt old new pairs two told n
-
--- each header of the row has the row's two labels
-abbrev pub HasLabelPair : (ℕ → Option (List Outcome × List Outcome)) → Row → Type 0
-HasLabelPair labels r = (h : ℕ) → h < 2 ^ 112 → IsIn r.cube h → labels h ≡ Some (r.old, r.new)
-
-abbrev pub shown : Row → Cube × (List Outcome × List Outcome)
-shown r = (r.cube, (r.old, r.new))
-
--- the row of a piece whose number is in the table
-abbrev pub shown_by : List (List Outcome × List Outcome) → Piece → Option (Cube × (List Outcome × List Outcome))
-shown_by pairs p = option_map (λ pair. (p.cube, pair)) (slice_get pairs p.value)
 
 -- a header outside the set has the same label in both worlds
 abbrev pub AreAlikeOutside : World → World → ℕ → Place → Functions → ℕ → Type 0

@@ -1,21 +1,25 @@
 //! The report on two networks.
 
-ghost use Rattle.std.specs.Prelude.{◌≡◌, ◌≤◌, All, IfOk};
+ghost use Rattle.std.specs.Prelude.{◌≡◌, ◌<◌, ◌≤◌, ◌^◌, ℕ, All, IfOk, IfSome, Some, length, slice_get};
 ghost use Rattle.like_devices.specs.Like.{IsLike};
 ghost use Rattle.net_forms.specs.Networks.{IsNetworkForm};
 ghost use Rattle.net_forms.specs.Pairs.{ArePreparedParts};
-ghost use Rattle.net_types.specs.Report.{IsSection, IsReport};
+ghost use Rattle.net_types.specs.Report.{IsReport};
+ghost use Rattle.net_types.specs.World.{World};
+ghost use Rattle.pair_rows.specs.declared.leaves.SlotRows.{SlotRows};
+ghost use Rattle.pair_rows.specs.Pairs.{AreRowsWithPairs};
+ghost use Rattle.net_compare.specs.Slots.{affected_in};
 ghost use Rattle.net_view.specs.Borrowed.{world_of};
 ghost use Rattle.set_walk.specs.Nets.{IsNet};
 ghost use Rattle.set_walk.specs.Scopes.{AreAlikeBeyond};
-ghost use Rattle.cube_diagram.specs.Functions.{Keeps};
 ghost use Rattle.difference_reach.specs.Reaches.{IsReach};
 ghost use Rattle.place_ways.specs.Places.{ArePlaceWays};
 ghost use Rattle.indexmap.specs.IndexMap.{get};
 ghost use Rattle.net_types.specs.World.{same_place};
 ghost use Rattle.net_compare.specs.Networks.{world};
 
-use crate::ingress::rows_on;
+use crate::source::Ingresses;
+use crate::twin::{Base, Twins};
 use change_scope::scope_of;
 use cube_diagram::Diagrams;
 use device_fates::Fates;
@@ -24,29 +28,43 @@ use indexmap::IndexSet;
 use net_forms::{NetworkForm, Prepared, PreparedParts, Tables};
 use net_types::{Links, List, Network, NoMemory, Place, Section};
 use net_view::WorldRef;
+use pair_rows::{Pairing, SlotRows, rows_by_workers};
 use place_ways::{BothWays, ways_of_both};
 use set_walk::Net;
 use std::alloc::Global;
+use std::marker::Brand;
+use std::sync::Wait;
+use std::thread::Threads;
+use steal_pool::Gate;
+
+/// From fewer ingresses one worker walks alone: a copy of the table for each worker would cost more than the walks do.
+const FEW_INGRESSES: usize = 16;
 
 /// The scope of a change, with the ways of all places of both networks for its headers.
 #[derive(Drop)]
-struct ScopedWays {
-    scope: u32,
-    ways: BothWays,
+pub struct ScopedWays {
+    /// The number of the function that has a value on exactly the headers of the scope.
+    pub scope: u32,
+    pub ways: BothWays,
 }
 
 /// The report on two networks with the same links: for each ingress, in order, the canonical rows of exactly the
 /// headers whose outcomes under this TTL differ, each with its two labels.
 ///
-/// The TTL is at least 1. It answers `NoMemory` only where there was none.
-pub fn compare(
+/// The work is done by 1 to 64 workers, each of which passes the gate before it works on a region; the report is the same for
+/// each number of them. The TTL is at least 1. It answers `NoMemory` only where there was none.
+pub fn compare<G: Gate + Sync, R: Threads + Wait + Sync>(
+    rt: &R,
     alloc: Global,
     old: &Network,
     new: &Network,
     links: &Links,
     ttl: u8,
+    workers: u32,
+    gate: &G,
 ) -> Result<Vec<Section>, NoMemory>
     requires ttl { 1 ≤ ttl }
+    requires workers { (1 ≤ workers) × (workers ≤ 64) }
     ensures { IfOk result (λ sections. IsReport links.now.ingress (world old.now links.now) (world new.now links.now) ttl sections.items) }
 {
     let before = WorldRef {
@@ -57,33 +75,63 @@ pub fn compare(
         network: new,
         links,
     };
-    compare_worlds(alloc, before, after, links.ingress.as_slice(), ttl)
+    compare_worlds(
+        rt,
+        alloc,
+        before,
+        after,
+        links.ingress.as_slice(),
+        ttl,
+        workers,
+        gate,
+    )
 }
 
 /// The same of two networks with links of their own, for these ingresses.
-pub fn compare_worlds(
+pub fn compare_worlds<G: Gate + Sync, R: Threads + Wait + Sync>(
+    rt: &R,
     alloc: Global,
     before: WorldRef,
     after: WorldRef,
     ingress: &[Place],
     ttl: u8,
+    workers: u32,
+    gate: &G,
 ) -> Result<Vec<Section>, NoMemory>
     requires ttl { 1 ≤ ttl }
+    requires workers { (1 ≤ workers) × (workers ≤ 64) }
     ensures { IfOk result (λ sections. IsReport ingress.now (world_of before.entry) (world_of after.entry) ttl sections.items) }
 {
+    // A slot has a number of 32 bits.
+    if ingress.len() > u32::MAX as usize {
+        return Err(NoMemory);
+    }
     let prepared = Prepared::of(alloc, before, after)?;
-    let sections = sections_of(alloc, prepared.into_parts(), ttl, ingress)?;
+    let sections = sections_prepared(
+        rt,
+        alloc,
+        prepared.into_parts(),
+        ttl,
+        ingress,
+        workers,
+        gate,
+    )?;
     Ok(sections)
 }
 
 // The sections of two compiled networks.
-fn sections_of(
+fn sections_prepared<G: Gate + Sync, R: Threads + Wait + Sync>(
+    rt: &R,
     alloc: Global,
     parts: PreparedParts,
     ttl: u8,
     ingress: &[Place],
+    workers: u32,
+    gate: &G,
 ) -> Result<Vec<Section>, NoMemory>
     requires ttl { 1 ≤ ttl }
+    requires few { length ingress.now < 2 ^ 32 }
+    requires workers { (1 ≤ workers) × (workers ≤ 64) }
     requires parts { ArePreparedParts (record { old = world_of parts.old.world; new = world_of parts.new.world }) parts }
     ensures { IfOk result (λ sections. IsReport ingress.now (world_of parts.entry.old.world) (world_of parts.entry.new.world) ttl sections.items) }
 {
@@ -99,19 +147,15 @@ fn sections_of(
     } = tables;
     let scoped = scoped_ways(alloc, &fates, &old, &new, &like, &mut diagrams)?;
     let sections = sections_by(
-        alloc,
-        &mut diagrams,
-        old.world,
-        new.world,
-        &scoped,
-        ttl,
-        ingress,
+        rt, alloc, diagrams, old.world, new.world, &scoped, ttl, ingress, workers, gate,
     )?;
     Ok(sections)
 }
 
-// The scope of the change, and the ways of all places for its headers.
-fn scoped_ways<'a>(
+/// The scope of the change from one compiled network to the other, and the ways of all places for its headers.
+///
+/// It answers `NoMemory` only where there was none.
+pub fn scoped_ways<'a>(
     alloc: Global,
     fates: &'a Fates,
     old: &'a NetworkForm<'a>,
@@ -132,19 +176,24 @@ fn scoped_ways<'a>(
 }
 
 // By the ways of all places for the headers of a scope, outside which the two networks do the same.
-fn sections_by(
+fn sections_by<G: Gate + Sync, R: Threads + Wait + Sync>(
+    rt: &R,
     alloc: Global,
-    table: &mut Diagrams,
+    mut table: Diagrams,
     before: WorldRef,
     after: WorldRef,
     scoped: &ScopedWays,
     ttl: u8,
     ingress: &[Place],
+    workers: u32,
+    gate: &G,
 ) -> Result<Vec<Section>, NoMemory>
     requires ttl { 1 ≤ ttl }
-    requires old { ArePlaceWays (world_of before) table.old scoped.now.scope scoped.now.ways.lists.items (get same_place scoped.now.ways.old) }
-    requires new { ArePlaceWays (world_of after) table.old scoped.now.scope scoped.now.ways.lists.items (get same_place scoped.now.ways.new) }
-    requires beyond { AreAlikeBeyond (world_of before) (world_of after) table.old scoped.now.scope }
+    requires few { length ingress.now < 2 ^ 32 }
+    requires workers { (1 ≤ workers) × (workers ≤ 64) }
+    requires old { ArePlaceWays (world_of before) table scoped.now.scope scoped.now.ways.lists.items (get same_place scoped.now.ways.old) }
+    requires new { ArePlaceWays (world_of after) table scoped.now.scope scoped.now.ways.lists.items (get same_place scoped.now.ways.new) }
+    requires beyond { AreAlikeBeyond (world_of before) (world_of after) table scoped.now.scope }
     ensures { IfOk result (λ sections. IsReport ingress.now (world_of before.entry) (world_of after.entry) ttl sections.items) }
 {
     let ways = &scoped.ways;
@@ -160,60 +209,224 @@ fn sections_by(
         lists: &ways.lists,
         scope: scoped.scope,
     };
-    let reach = Reach::of(alloc, table, &old, &new)?;
-    let sections = sections_at(alloc, table, &old, &new, &reach, ttl, ingress)?;
+    let reach = Reach::of(alloc, &mut table, &old, &new)?;
+    let sections = sections_at(
+        rt, alloc, table, &old, &new, &reach, ttl, ingress, workers, gate,
+    )?;
     Ok(sections)
 }
 
-// The sections of the ingresses, in their order.
-fn sections_at(
+// The sections of the ingresses, in their order. One worker walks in the table itself, and so it does from few ingresses.
+fn sections_at<G: Gate + Sync, R: Threads + Wait + Sync>(
+    rt: &R,
     alloc: Global,
-    table: &mut Diagrams,
+    table: Diagrams,
     old: &Net,
     new: &Net,
     reach: &Reach,
     ttl: u8,
     ingress: &[Place],
+    workers: u32,
+    gate: &G,
 ) -> Result<Vec<Section>, NoMemory>
-    requires old { IsNet table.old old.now }
-    requires new { IsNet table.old new.now }
+    requires old { IsNet table old.now }
+    requires new { IsNet table new.now }
     requires scope { old.now.scope ≡ new.now.scope }
-    requires reach { IsReach (world_of old.now.world) (world_of new.now.world) table.old old.now.scope reach.now }
-    requires beyond { AreAlikeBeyond (world_of old.now.world) (world_of new.now.world) table.old old.now.scope }
+    requires reach { IsReach (world_of old.now.world) (world_of new.now.world) table old.now.scope reach.now }
+    requires beyond { AreAlikeBeyond (world_of old.now.world) (world_of new.now.world) table old.now.scope }
     requires ttl { 1 ≤ ttl }
+    requires few { length ingress.now < 2 ^ 32 }
+    requires workers { (1 ≤ workers) × (workers ≤ 64) }
     ensures { IfOk result (λ sections. IsReport ingress.now (world_of old.now.world) (world_of new.now.world) ttl sections.items) }
 {
-    let mut sections = Vec::new(alloc);
-    for place in ingress {
-        let section = section(alloc, table, old, new, reach, ttl, *place)?;
-        sections.push(section)?;
+    if workers == 1 || ingress.len() < FEW_INGRESSES {
+        return sections_alone(rt, alloc, table, old, new, reach, ttl, ingress, gate);
     }
-    Ok(sections)
+    sections_shared(
+        rt, alloc, &table, old, new, reach, ttl, ingress, workers, gate,
+    )
 }
 
-// The section of an ingress.
-fn section(
+// By one worker. What each header is given in each slot is named for it by a type.
+fn sections_alone<G: Gate + Sync, R: Threads + Wait + Sync>(
+    rt: &R,
     alloc: Global,
-    table: &mut Diagrams,
+    table: Diagrams,
     old: &Net,
     new: &Net,
     reach: &Reach,
     ttl: u8,
-    place: Place,
-) -> Result<Section, NoMemory>
-    requires old { IsNet table.old old.now }
-    requires new { IsNet table.old new.now }
+    ingress: &[Place],
+    gate: &G,
+) -> Result<Vec<Section>, NoMemory>
+    requires old { IsNet table old.now }
+    requires new { IsNet table new.now }
     requires scope { old.now.scope ≡ new.now.scope }
-    requires reach { IsReach (world_of old.now.world) (world_of new.now.world) table.old old.now.scope reach.now }
-    requires beyond { AreAlikeBeyond (world_of old.now.world) (world_of new.now.world) table.old old.now.scope }
+    requires reach { IsReach (world_of old.now.world) (world_of new.now.world) table old.now.scope reach.now }
+    requires beyond { AreAlikeBeyond (world_of old.now.world) (world_of new.now.world) table old.now.scope }
     requires ttl { 1 ≤ ttl }
-    ensures section { IfOk result (λ section. IsSection (world_of old.now.world) (world_of new.now.world) ttl place section) }
-    ensures kept { Keeps table.old table.new }
+    requires few { length ingress.now < 2 ^ 32 }
+    ensures { IfOk result (λ sections. IsReport ingress.now (world_of old.now.world) (world_of new.now.world) ttl sections.items) }
 {
-    let domain = reach.headers_at(table, place)?;
-    let rows = rows_on(alloc, table, old, new, ttl, place, domain)?;
-    Ok(Section {
-        place,
-        rows: List::new(rows),
-    })
+    sections_in_one::<Brand, G, R>(rt, alloc, table, old, new, reach, ttl, ingress, gate)
+}
+
+fn sections_in_one<K: Pairing + Base + Send + Sync, G: Gate + Sync, R: Threads + Wait + Sync>(
+    rt: &R,
+    alloc: Global,
+    table: Diagrams,
+    old: &Net,
+    new: &Net,
+    reach: &Reach,
+    ttl: u8,
+    ingress: &[Place],
+    gate: &G,
+) -> Result<Vec<Section>, NoMemory>
+    requires old { IsNet table old.now }
+    requires new { IsNet table new.now }
+    requires scope { old.now.scope ≡ new.now.scope }
+    requires reach { IsReach (world_of old.now.world) (world_of new.now.world) table old.now.scope reach.now }
+    requires beyond { AreAlikeBeyond (world_of old.now.world) (world_of new.now.world) table old.now.scope }
+    requires ttl { 1 ≤ ttl }
+    requires few { length ingress.now < 2 ^ 32 }
+    requires base { K.base ≡ table }
+    requires gives { K.gives ≡ affected_in (world_of old.now.world) (world_of new.now.world) ttl ingress.now }
+    ensures { IfOk result (λ sections. IsReport ingress.now (world_of old.now.world) (world_of new.now.world) ttl sections.items) }
+{
+    let twins: Twins<K> = Twins::of(alloc, table)?;
+    let sections = sections_in(
+        rt, alloc, None, &twins, old, new, reach, ttl, ingress, 1, gate,
+    )?;
+    Ok(sections)
+}
+
+// By several workers, each in a copy of the table.
+fn sections_shared<G: Gate + Sync, R: Threads + Wait + Sync>(
+    rt: &R,
+    alloc: Global,
+    table: &Diagrams,
+    old: &Net,
+    new: &Net,
+    reach: &Reach,
+    ttl: u8,
+    ingress: &[Place],
+    workers: u32,
+    gate: &G,
+) -> Result<Vec<Section>, NoMemory>
+    requires old { IsNet table.now old.now }
+    requires new { IsNet table.now new.now }
+    requires scope { old.now.scope ≡ new.now.scope }
+    requires reach { IsReach (world_of old.now.world) (world_of new.now.world) table.now old.now.scope reach.now }
+    requires beyond { AreAlikeBeyond (world_of old.now.world) (world_of new.now.world) table.now old.now.scope }
+    requires ttl { 1 ≤ ttl }
+    requires few { length ingress.now < 2 ^ 32 }
+    requires workers { (1 ≤ workers) × (workers ≤ 64) }
+    ensures { IfOk result (λ sections. IsReport ingress.now (world_of old.now.world) (world_of new.now.world) ttl sections.items) }
+{
+    sections_in_copies::<Brand, G, R>(
+        rt, alloc, table, old, new, reach, ttl, ingress, workers, gate,
+    )
+}
+
+fn sections_in_copies<K: Pairing + Base + Send + Sync, G: Gate + Sync, R: Threads + Wait + Sync>(
+    rt: &R,
+    alloc: Global,
+    table: &Diagrams,
+    old: &Net,
+    new: &Net,
+    reach: &Reach,
+    ttl: u8,
+    ingress: &[Place],
+    workers: u32,
+    gate: &G,
+) -> Result<Vec<Section>, NoMemory>
+    requires old { IsNet table.now old.now }
+    requires new { IsNet table.now new.now }
+    requires scope { old.now.scope ≡ new.now.scope }
+    requires reach { IsReach (world_of old.now.world) (world_of new.now.world) table.now old.now.scope reach.now }
+    requires beyond { AreAlikeBeyond (world_of old.now.world) (world_of new.now.world) table.now old.now.scope }
+    requires ttl { 1 ≤ ttl }
+    requires few { length ingress.now < 2 ^ 32 }
+    requires workers { (1 ≤ workers) × (workers ≤ 64) }
+    requires base { K.base ≡ table.now }
+    requires gives { K.gives ≡ affected_in (world_of old.now.world) (world_of new.now.world) ttl ingress.now }
+    ensures { IfOk result (λ sections. IsReport ingress.now (world_of old.now.world) (world_of new.now.world) ttl sections.items) }
+{
+    let twins: Twins<K> = Twins::new(alloc);
+    let sections = sections_in(
+        rt,
+        alloc,
+        Some(table),
+        &twins,
+        old,
+        new,
+        reach,
+        ttl,
+        ingress,
+        workers,
+        gate,
+    )?;
+    Ok(sections)
+}
+
+// By workers who walk in these twins of the base.
+fn sections_in<K: Pairing + Base + Send + Sync, G: Gate + Sync, R: Threads + Wait + Sync>(
+    rt: &R,
+    alloc: Global,
+    base: Option<&Diagrams>,
+    twins: &Twins<K>,
+    old: &Net,
+    new: &Net,
+    reach: &Reach,
+    ttl: u8,
+    ingress: &[Place],
+    workers: u32,
+    gate: &G,
+) -> Result<Vec<Section>, NoMemory>
+    requires old { IsNet K.base old.now }
+    requires new { IsNet K.base new.now }
+    requires scope { old.now.scope ≡ new.now.scope }
+    requires reach { IsReach (world_of old.now.world) (world_of new.now.world) K.base old.now.scope reach.now }
+    requires beyond { AreAlikeBeyond (world_of old.now.world) (world_of new.now.world) K.base old.now.scope }
+    requires ttl { 1 ≤ ttl }
+    requires few { length ingress.now < 2 ^ 32 }
+    requires workers { (1 ≤ workers) × (workers ≤ 64) }
+    requires base { IfSome base (λ b. K.base ≡ b.now) }
+    requires gives { K.gives ≡ affected_in (world_of old.now.world) (world_of new.now.world) ttl ingress.now }
+    ensures { IfOk result (λ sections. IsReport ingress.now (world_of old.now.world) (world_of new.now.world) ttl sections.items) }
+{
+    let source: Ingresses<R, K> = Ingresses::of(rt, base, twins, old, new, reach, ttl, ingress);
+    let all = rows_by_workers::<Ingresses<R, K>, K, G, R>(
+        rt,
+        alloc,
+        &source,
+        ingress.len(),
+        workers,
+        gate,
+    )?;
+    let sections = sections_of(alloc, ingress, all)?;
+    Ok(sections)
+}
+
+// The rows of each slot as the section of its ingress.
+fn sections_of(
+    alloc: Global,
+    ingress: &[Place],
+    all: Vec<SlotRows>,
+) -> Result<Vec<Section>, NoMemory>
+    requires { length all.items ≡ length ingress.now }
+    ensures { IfOk result (λ sections. (old new : World) (t : ℕ) → ((k : ℕ) (s : SlotRows) → slice_get all.items k ≡ Some s → AreRowsWithPairs (affected_in old new t ingress.now k) s.rows.items) → IsReport ingress.now old new t sections.items) }
+{
+    let mut sections = Vec::new(alloc);
+    let mut rest = all.into_iter();
+    for place in ingress {
+        let Some(slot) = rest.next() else {
+            unreachable!();
+        };
+        sections.push(Section {
+            place: *place,
+            rows: List::new(slot.rows),
+        })?;
+    }
+    Ok(sections)
 }

@@ -1,23 +1,51 @@
-//! The rows of an ingress, by walks of sets of headers in both networks.
+//! The pairs of labels of an ingress, by walks of sets of headers in both networks.
 
-ghost use Rattle.std.specs.Prelude.{◌≡◌, ◌≤◌, ◌<◌, IfOk, map};
-ghost use Rattle.std.specs.List.{AllByRecursion};
-ghost use Rattle.hdr_bits.specs.Rows.{AreRows};
+ghost use Rattle.std.specs.Prelude.{◌≡◌, ◌≤◌, ◌<◌, IfOk};
 ghost use Rattle.cube_diagram.specs.Functions.{Keeps, count_of};
-ghost use Rattle.net_types.specs.Report.{affected, HasLabels};
+ghost use Rattle.difference_reach.specs.Reaches.{IsReach};
+ghost use Rattle.net_types.specs.Report.{affected};
 ghost use Rattle.net_view.specs.Borrowed.{world_of};
+ghost use Rattle.pair_rows.specs.Functions.{IsFunctionOf};
 ghost use Rattle.set_walk.specs.Nets.{IsNet};
+ghost use Rattle.set_walk.specs.Scopes.{AreAlikeBeyond};
 ghost use Rattle.set_walk.specs.Sets.{IsWithin};
 ghost use Rattle.net_compare.specs.Rows.{AreAlikeOutside};
 
-use crate::rows::rows_of;
+use crate::pairs::{no_pairs, pairs_given};
 use cube_diagram::Diagrams;
-use net_types::{NoMemory, Place, Row};
+use difference_reach::Reach;
+use net_types::{NoMemory, Place};
+use pair_rows::PairFunction;
 use set_walk::{Net, label_numbers};
 use std::alloc::Global;
 
-/// The rows of the headers whose labels differ, of which the domain, a set of headers of the networks' scopes, has all.
-pub(crate) fn rows_on(
+/// The function that gives a header that enters at the place its two labels, where they differ. Walks add to the table, but none
+/// that was there is changed.
+pub(crate) fn pairs_at(
+    alloc: Global,
+    table: &mut Diagrams,
+    old: &Net,
+    new: &Net,
+    reach: &Reach,
+    ttl: u8,
+    place: Place,
+) -> Result<PairFunction, NoMemory>
+    requires old { IsNet table.old old.now }
+    requires new { IsNet table.old new.now }
+    requires scope { old.now.scope ≡ new.now.scope }
+    requires reach { IsReach (world_of old.now.world) (world_of new.now.world) table.old old.now.scope reach.now }
+    requires beyond { AreAlikeBeyond (world_of old.now.world) (world_of new.now.world) table.old old.now.scope }
+    requires ttl { 1 ≤ ttl }
+    ensures given { IfOk result (IsFunctionOf (affected (world_of old.now.world) (world_of new.now.world) ttl place)) }
+    ensures kept { Keeps table.old table.new }
+{
+    let domain = reach.headers_at(table, place)?;
+    let given = pairs_on(alloc, table, old, new, ttl, place, domain)?;
+    Ok(given)
+}
+
+// By the headers whose labels differ, all of which the domain has, a set of headers of the networks' scopes.
+fn pairs_on(
     alloc: Global,
     table: &mut Diagrams,
     old: &Net,
@@ -25,7 +53,7 @@ pub(crate) fn rows_on(
     ttl: u8,
     place: Place,
     domain: u32,
-) -> Result<Vec<Row>, NoMemory>
+) -> Result<PairFunction, NoMemory>
     requires old { IsNet table.old old.now }
     requires new { IsNet table.old new.now }
     requires ttl { 1 ≤ ttl }
@@ -33,15 +61,15 @@ pub(crate) fn rows_on(
     requires old_within { IsWithin table.old domain old.now.scope }
     requires new_within { IsWithin table.old domain new.now.scope }
     requires alike { AreAlikeOutside (world_of old.now.world) (world_of new.now.world) ttl place table.old domain }
-    ensures rows { IfOk result (λ rows. AreRows (affected (world_of old.now.world) (world_of new.now.world) ttl place) (map (λ r. r.cube) rows.items)) }
-    ensures labels { IfOk result (λ rows. AllByRecursion (HasLabels (world_of old.now.world) (world_of new.now.world) ttl place) rows.items) }
+    ensures given { IfOk result (IsFunctionOf (affected (world_of old.now.world) (world_of new.now.world) ttl place)) }
     ensures kept { Keeps table.old table.new }
 {
     if table.is_nothing(domain) {
-        return Ok(Vec::new(alloc));
+        let none = no_pairs(alloc)?;
+        return Ok(none);
     }
     let before = label_numbers(alloc, table, old, place, domain, ttl)?;
     let after = label_numbers(alloc, table, new, place, domain, ttl)?;
-    let rows = rows_of(alloc, table, &before, &after)?;
-    Ok(rows)
+    let given = pairs_given(alloc, table, &before, &after)?;
+    Ok(given)
 }

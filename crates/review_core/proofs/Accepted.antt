@@ -1,18 +1,20 @@
 -- What may stop a job of which nothing is refused, too long or absent.
-use Rattle.std.proofs.Common.{◌≡◌, ◌⊎◌, inl, inr, ℕ, ◌<◌, ◌≤◌, List, [], length, refl, sym, ap, subst, ◌∙◌, arith}
+use Rattle.std.proofs.Common.{◌≡◌, inl, inr, ℕ, ◌<◌, ◌≤◌, List, [], length, sym, subst, arith}
 use Rattle.std.specs.Prelude.{Option, Some, None, Result, Ok, Err, IsSomeAnd}
 use Rattle.net_types.specs.declared.config.Loaded.{Loaded}
 use Rattle.net_io.specs.Limits.{file_limit}
 use Rattle.net_io.specs.Files.{Told, content}
 use Rattle.topo_links.specs.declared.table.LinkTable.{LinkTable}
-use Rattle.topo_links.specs.declared.table.LinkFail.{LinkFail}
 use Rattle.topo_links.specs.declared.table.LinkFail.TheVariants as links
 use Rattle.topo_links.specs.Table.{table_of}
 use Rattle.net_load.specs.declared.folder.LoadFail.{LoadFail}
 use Rattle.net_load.specs.declared.folder.LoadFail.TheVariants as load
-use Rattle.net_load.specs.Folder.{Loads, Unless}
+use Rattle.net_load.specs.Folder.{Unless}
+use Rattle.net_load.specs.declared.numbering.Numbered.{Numbered}
 use Rattle.net_load.specs.Numbering.{numbered_of, numbered_both}
 use Rattle.net_gen.specs.Networks.{networks}
+use Rattle.ask_query.specs.declared.refusal.QuestionFail.TheVariants as fail
+use Rattle.ask_query.specs.Reading.{Said, questions_of}
 use Rattle.net_load.proofs.OneAnswer.{loaded_is_free, loads_once}
 use Rattle.review_core.specs.declared.stop.Stop.{Stop}
 use Rattle.review_core.specs.declared.stop.Stop.TheVariants as stop
@@ -22,10 +24,10 @@ use Rattle.review_core.specs.declared.table.Wires.TheVariants as wires
 use Rattle.review_core.specs.declared.words.Job.{Job}
 use Rattle.review_core.specs.declared.words.Packet.{Packet}
 use Rattle.review_core.specs.declared.words.Job.TheVariants as job
-use Rattle.review_core.specs.Accepted.{AcceptedFolder, AcceptedTable, AcceptedTables, AcceptedComparison, AcceptedTrace, AcceptedJob, IsAccepted, MayAlwaysStop}
-use Rattle.review_core.specs.Steps.{stop_of_load, fault_in, GivesFolder, UnreadFile, GivesBytes, GivesTable, SaysTable, LinksFail}
+use Rattle.review_core.specs.Accepted.{AcceptedFolder, AcceptedTable, AcceptedTables, AcceptedComparison, AcceptedQuestions, AcceptedAsking, AcceptedTrace, AcceptedJob, IsAccepted, MayAlwaysStop}
+use Rattle.review_core.specs.Steps.{stop_of_load, fault_in, GivesFolder, UnreadFile, GivesTable, LinksFail}
 use Rattle.review_core.specs.Words.{job_of}
-use Rattle.review_core.specs.Job.{OrNoMemory, IsShared, IsRewired, IsReading, IsSummaryOf, IsTrace, Rewires, ComparesOver, ComparesWith, Compares, TracesOver, Traces, Reads, Performs, Does}
+use Rattle.review_core.specs.Job.{OrNoMemory, IsShared, IsRewired, IsReading, IsSummaryOf, IsTrace, Rewires, ComparesOver, ComparesWith, Compares, AsksOn, AsksWith, AsksOver, Asks, asked_network, TracesOver, Traces, Reads, Performs, Does}
 
 abbrev AreEqual : {A : Type 0} → Result A Stop → Result A Stop → Type 0
 AreEqual x y = x ≡ y
@@ -73,6 +75,7 @@ unread_may_stop path o bytes (stop.TooManyFiles p) there within h = h
 unread_may_stop path o bytes (stop.RefusedConfig p r) there within h = h
 unread_may_stop path o bytes (stop.HostnameTaken p q) there within h = h
 unread_may_stop path o bytes (stop.RefusedLinks p k n w) there within h = h
+unread_may_stop path o bytes (stop.RefusedQuestions p k n w) there within h = h
 
 links_may_stop : (path : List ℕ) (w : Wires) (first second : List Loaded) (bytes : List ℕ) (table : LinkTable) (s : Stop) → table_of bytes ≡ Ok table → fault_in w first second table.lines ≡ None → LinksFail path w first second bytes s → MayAlwaysStop s
 links_may_stop path w first second bytes table stop.NoMemory read fits h = tt
@@ -82,6 +85,7 @@ links_may_stop path w first second bytes table (stop.TooLong p) read fits h = h
 links_may_stop path w first second bytes table (stop.TooManyFiles p) read fits h = h
 links_may_stop path w first second bytes table (stop.RefusedConfig p r) read fits h = h
 links_may_stop path w first second bytes table (stop.HostnameTaken p q) read fits h = h
+links_may_stop path w first second bytes table (stop.RefusedQuestions p k n word) read fits h = h
 links_may_stop path w first second bytes table (stop.RefusedLinks p k n word) read fits (same, inl refused) = ok_err (table_of bytes) table (links.Refused k n word) read refused
 links_may_stop path w first second bytes table (stop.RefusedLinks p k n word) read fits (same, inr (other, said, fails)) =
     none_some (fault_in w first second other.lines) (links.Refused k n word) (subst (λ (x : LinkTable). fault_in w first second x.lines ≡ None) (ok_is (table_of bytes) table other read said) fits) fails
@@ -90,6 +94,31 @@ table_may_stop : (t : Told) (path : List ℕ) (w : Wires) (first second : List L
 table_may_stop t path w first second a s (inl (r, unread, same)) = inside s r same (unread_may_stop path (content t path) a.bytes r a.there a.within unread)
 table_may_stop t path w first second a s (inr (others, given, says)) =
     links_may_stop path w first second a.bytes a.table s a.read a.fits (subst (λ (b : List ℕ). LinksFail path w first second b s) (some_is (content t path) others a.bytes given.0 a.there) says)
+
+-- the table that is given is the accepted one
+table_is : (t : Told) (path : List ℕ) (w : Wires) (first second : List Loaded) (a : AcceptedTable t path w first second) (table : LinkTable) → GivesTable t path w first second (Ok table) → table ≡ a.table
+table_is t path w first second a table (inl (r, unread, same)) = let other : ⊥ = cc in absurd other
+table_is t path w first second a table (inr (bytes, given, says)) =
+    let same = some_is (content t path) bytes a.bytes given.0 a.there in
+    ok_is (table_of a.bytes) table a.table (subst (λ (b : List ℕ). table_of b ≡ Ok table) same says.0) a.read
+
+-- ---- questions
+
+questions_may_stop : (path : List ℕ) (n : Numbered) (ttl : ℕ) (bytes : List ℕ) (read : List Said) (s : Stop) → questions_of n.old bytes ≡ Ok read → AsksOn path n ttl bytes (Err s) → MayAlwaysStop s
+questions_may_stop path n ttl bytes read stop.NoMemory is h = tt
+questions_may_stop path n ttl bytes read (stop.CannotRead p) is h = tt
+questions_may_stop path n ttl bytes read (stop.NotFound p) is h = h
+questions_may_stop path n ttl bytes read (stop.TooLong p) is h = h
+questions_may_stop path n ttl bytes read (stop.TooManyFiles p) is h = h
+questions_may_stop path n ttl bytes read (stop.RefusedConfig p r) is h = h
+questions_may_stop path n ttl bytes read (stop.HostnameTaken p q) is h = h
+questions_may_stop path n ttl bytes read (stop.RefusedLinks p k m w) is h = h
+questions_may_stop path n ttl bytes read (stop.RefusedQuestions p k m w) is h = ok_err (questions_of n.old bytes) read (fail.Refused k m w) is h.1
+
+asks_may_stop : (t : Told) (path : List ℕ) (devices : List Loaded) (table : LinkTable) (ttl : ℕ) (a : AcceptedQuestions t path devices table) (s : Stop) → AsksWith t devices table path ttl (Err s) → MayAlwaysStop s
+asks_may_stop t path devices table ttl a s (inl (r, unread, same)) = inside s r same (unread_may_stop path (content t path) a.bytes r a.there a.within unread)
+asks_may_stop t path devices table ttl a s (inr (others, given, asks)) =
+    questions_may_stop path (asked_network devices table) ttl a.bytes a.questions s a.read (subst (λ (b : List ℕ). AsksOn path (asked_network devices table) ttl b (Err s)) (some_is (content t path) others a.bytes given.0 a.there) asks)
 
 -- ---- what is written
 
@@ -102,6 +131,7 @@ writing_may_stop Is (stop.TooManyFiles p) h = h
 writing_may_stop Is (stop.RefusedConfig p r) h = h
 writing_may_stop Is (stop.HostnameTaken p q) h = h
 writing_may_stop Is (stop.RefusedLinks p k m w) h = h
+writing_may_stop Is (stop.RefusedQuestions p k m w) h = h
 
 -- ---- one after the other
 
@@ -127,6 +157,17 @@ module _ (t : Told) (s : Stop) where
     comparison_may_stop (inr (devices, gives, next)) =
         with_may_stop (subst (λ (ls : List Loaded). ComparesWith t ls new links new_links ttl (Err s)) (loads_once t old devices a.before.devices gives a.before.loaded) next)
 
+  module _ (links questions : List ℕ) (ttl : ℕ) where
+    asked_may_stop : (devices : List Loaded) (a : AcceptedTable t links wires.Both devices devices) → AcceptedQuestions t questions devices a.table → AsksOver t devices links questions ttl (Err s) → MayAlwaysStop s
+    asked_may_stop devices a b (inl (r, gives, same)) = inside s r same (table_may_stop t links wires.Both devices devices a r gives)
+    asked_may_stop devices a b (inr (table, gives, next)) =
+        asks_may_stop t questions devices a.table ttl b s (subst (λ (x : LinkTable). AsksWith t devices x questions ttl (Err s)) (table_is t links wires.Both devices devices a table gives) next)
+
+    asking_may_stop : (net : List ℕ) → AcceptedAsking t net links questions → Asks t net links questions ttl (Err s) → MayAlwaysStop s
+    asking_may_stop net a (inl (r, gives, same)) = inside s r same (folder_may_stop t net a.folder r gives)
+    asking_may_stop net a (inr (devices, gives, next)) =
+        asked_may_stop a.folder.devices a.table a.file (subst (λ (ls : List Loaded). AsksOver t ls links questions ttl (Err s)) (loads_once t net devices a.folder.devices gives a.folder.loaded) next)
+
   module _ (links : List ℕ) (packet : Packet) (ttl : ℕ) where
     traced_may_stop : (devices : List Loaded) → AcceptedTable t links wires.Both devices devices → TracesOver t devices links packet ttl (Err s) → MayAlwaysStop s
     traced_may_stop devices a (inl (r, gives, same)) = inside s r same (table_may_stop t links wires.Both devices devices a r gives)
@@ -144,6 +185,7 @@ module _ (t : Told) (s : Stop) where
   job_may_stop : (o : Option Job) → AcceptedJob o t → Performs o t (Err s) → MayAlwaysStop s
   job_may_stop None a d = absurd a
   job_may_stop (Some (job.Compare old new links new_links ttl)) a d = comparison_may_stop old new links new_links ttl a d
+  job_may_stop (Some (job.Ask net links questions ttl)) a d = asking_may_stop links questions ttl net a d
   job_may_stop (Some (job.Trace net links packet ttl)) a d = trace_may_stop links packet ttl net a d
   job_may_stop (Some (job.Read net)) a d = reading_may_stop net a d
   job_may_stop (Some (job.Gen number size)) a d = writing_may_stop (IsSummaryOf (networks number size)) s d

@@ -1,5 +1,5 @@
 -- How a run ends: what the report and its status say, and what a stop and its status say.
-use Rattle.std.proofs.Common.{◌≡◌, ◌⊎◌, inl, inr, ℕ, ◌≤◌, ◌++◌, Bool, true, false, cond, List, Option, Some, None, Result, Ok, Err, IfSome, refl, sym, ap, subst, ◌∙◌, arith}
+use Rattle.std.proofs.Common.{◌≡◌, ◌⊎◌, inl, inr, ℕ, ◌≤◌, ◌++◌, true, false, cond, List, Option, Some, None, Result, Ok, Err, IfSome, refl, sym, ap, subst, ◌∙◌, arith}
 use Rattle.std.specs.Prelude.{option_map}
 use Rattle.net_io.specs.Files.{Told}
 use Rattle.net_io.specs.Sink.{TookPrefix}
@@ -10,7 +10,7 @@ use Rattle.review_core.specs.declared.stop.Stop.TheVariants as stop
 use Rattle.net_io.specs.Faults.{Rose, Faultless}
 use Rattle.review_core.specs.Stops.{status_of, line_of, cannot_read_line}
 use Rattle.review_core.specs.Lines.{no_memory_text}
-use Rattle.review_core.specs.Causes.{FaultRose, HasCause}
+use Rattle.review_core.specs.Causes.{FaultRose}
 use Rattle.review_core.specs.Words.{job_of}
 use Rattle.review_core.specs.Accepted.{AcceptedJob, IsAccepted, MayAlwaysStop}
 use Rattle.review_core.proofs.Accepted.{accepted_may_stop}
@@ -24,6 +24,7 @@ stop_status : (s : Stop) → 3 ≤ status_of s
 stop_status (stop.RefusedConfig path refusal) = omega arith
 stop_status (stop.HostnameTaken first second) = omega arith
 stop_status (stop.RefusedLinks path kind line word) = omega arith
+stop_status (stop.RefusedQuestions path kind line word) = omega arith
 stop_status (stop.CannotRead path) = omega arith
 stop_status (stop.TooLong path) = omega arith
 stop_status (stop.TooManyFiles path) = omega arith
@@ -34,6 +35,7 @@ not_six : (s : Stop) → status_of s ≡ 6 → ⊥
 not_six (stop.RefusedConfig path refusal) e = omega (arith, e)
 not_six (stop.HostnameTaken first second) e = omega (arith, e)
 not_six (stop.RefusedLinks path kind line word) e = omega (arith, e)
+not_six (stop.RefusedQuestions path kind line word) e = omega (arith, e)
 not_six (stop.CannotRead path) e = omega (arith, e)
 not_six (stop.TooLong path) e = omega (arith, e)
 not_six (stop.TooManyFiles path) e = omega (arith, e)
@@ -71,6 +73,7 @@ four_is_read (stop.CannotRead path) e = (path, refl)
 four_is_read (stop.RefusedConfig path refusal) e = absurd (omega (arith, e))
 four_is_read (stop.HostnameTaken first second) e = absurd (omega (arith, e))
 four_is_read (stop.RefusedLinks path kind line word) e = absurd (omega (arith, e))
+four_is_read (stop.RefusedQuestions path kind line word) e = absurd (omega (arith, e))
 four_is_read (stop.TooLong path) e = absurd (omega (arith, e))
 four_is_read (stop.TooManyFiles path) e = absurd (omega (arith, e))
 four_is_read (stop.NotFound path) e = absurd (omega (arith, e))
@@ -82,6 +85,7 @@ seven_is_memory (stop.CannotRead path) e = absurd (omega (arith, e))
 seven_is_memory (stop.RefusedConfig path refusal) e = absurd (omega (arith, e))
 seven_is_memory (stop.HostnameTaken first second) e = absurd (omega (arith, e))
 seven_is_memory (stop.RefusedLinks path kind line word) e = absurd (omega (arith, e))
+seven_is_memory (stop.RefusedQuestions path kind line word) e = absurd (omega (arith, e))
 seven_is_memory (stop.TooLong path) e = absurd (omega (arith, e))
 seven_is_memory (stop.TooManyFiles path) e = absurd (omega (arith, e))
 seven_is_memory (stop.NotFound path) e = absurd (omega (arith, e))
@@ -159,6 +163,7 @@ ends_at_seven stop.NoMemory told before now may rose none (inl same) = ap status
 ends_at_seven (stop.RefusedConfig p r) told before now may rose none (inl same) = absurd may
 ends_at_seven (stop.HostnameTaken p q) told before now may rose none (inl same) = absurd may
 ends_at_seven (stop.RefusedLinks p k n w) told before now may rose none (inl same) = absurd may
+ends_at_seven (stop.RefusedQuestions p k n w) told before now may rose none (inl same) = absurd may
 ends_at_seven (stop.TooLong p) told before now may rose none (inl same) = absurd may
 ends_at_seven (stop.TooManyFiles p) told before now may rose none (inl same) = absurd may
 ends_at_seven (stop.NotFound p) told before now may rose none (inl same) = absurd may

@@ -1,5 +1,5 @@
 -- How many names there are: no more than are written.
-use Rattle.std.proofs.Common.{◌≡◌, ℕ, ◌<◌, ◌≤◌, ◌^◌, List, [], ◌++◌, length, sym, subst, arith}
+use Rattle.std.proofs.Common.{◌≡◌, ◌<◌, ◌≤◌, ◌^◌, List, [], ◌++◌, length, sym, subst, arith}
 use Rattle.std.proofs.lemmas.List.{length-append}
 use Rattle.net_types.specs.declared.config.Loaded.{Loaded}
 use Rattle.topo_links.specs.declared.table.LinkTable.{LinkTable}

@@ -1,14 +1,15 @@
 -- A job: what the words ask, over what the files tell alone.
-use Rattle.std.specs.Prelude.{◌≡◌, ◌⊎◌, ℕ, Bool, false, List, [], ◌∷◌, Option, None, Some, Result, Ok, Err, nat_lt, length, option_map, ◌++◌, if◌then◌else◌}
+use Rattle.std.specs.Prelude.{◌≡◌, ◌⊎◌, ℕ, Bool, false, List, [], ◌∷◌, Option, None, Some, Result, Ok, Err, nat_lt, length, option_map, ◌++◌, map, if◌then◌else◌}
 use Rattle.std.specs.List.{list_any}
 use Rattle.net_types.specs.declared.config.Loaded.{Loaded}
 use Rattle.net_types.specs.declared.network.Names.{Names}
+use Rattle.net_types.specs.declared.network.Network.{Network}
 use Rattle.net_types.specs.declared.network.Place.{Place}
 use Rattle.net_types.specs.declared.network.Section.{Section}
 use Rattle.net_types.specs.World.{World}
 use Rattle.net_types.specs.Report.{IsReport}
 use Rattle.net_io.specs.Faults.{Faultless}
-use Rattle.net_io.specs.Files.{Told}
+use Rattle.net_io.specs.Files.{Told, content}
 use Rattle.net_io.specs.Sink.{TookPrefix}
 use Rattle.topo_links.specs.declared.table.LinkTable.{LinkTable}
 use Rattle.net_load.specs.declared.numbering.Numbered.{Numbered}
@@ -19,6 +20,12 @@ use Rattle.net_gen.specs.Networks.{networks}
 use Rattle.report_text.specs.ReportText.{report_text, summary_text}
 use Rattle.report_text.specs.Readings.{readings_text}
 use Rattle.walk_trace.specs.Traced.{traced}
+use Rattle.ask_query.specs.declared.question.Answer.{Answer}
+use Rattle.ask_query.specs.declared.question.Question.{Question}
+use Rattle.ask_query.specs.declared.refusal.QuestionFail.TheVariants as fail
+use Rattle.ask_query.specs.AnswerText.{answers_text, failed_count}
+use Rattle.ask_query.specs.Questions.{AreAnswers}
+use Rattle.ask_query.specs.Reading.{questions_of, said}
 use Rattle.walk_trace.specs.TraceText.{trace_text}
 use Rattle.review_core.specs.declared.report.Report.{Report}
 use Rattle.review_core.specs.declared.table.Wires.TheVariants as wires
@@ -28,7 +35,7 @@ use Rattle.review_core.specs.declared.words.Job.TheVariants as job
 use Rattle.review_core.specs.declared.stop.Stop.{Stop}
 use Rattle.review_core.specs.declared.stop.Stop.TheVariants as stop
 use Rattle.review_core.specs.Stops.{status_of, line_of}
-use Rattle.review_core.specs.Steps.{Then, GivesFolder, GivesTable}
+use Rattle.review_core.specs.Steps.{Then, GivesBytes, GivesFolder, GivesTable}
 use Rattle.review_core.specs.Words.{job_of}
 
 -- what is written, or that there was no memory for it
@@ -76,6 +83,42 @@ ComparesWith t old new links new_links ttl =
 abbrev pub Compares : Told → List ℕ → List ℕ → List ℕ → Option (List ℕ) → ℕ → Result Report Stop → Type 0
 Compares t old new links new_links ttl =
     Then (GivesFolder (λ devices. devices) t old) (λ devices. ComparesWith t devices new links new_links ttl)
+
+-- ---- `ask NET LINKS QUESTIONS`
+
+abbrev pub asked_network : List Loaded → LinkTable → Numbered
+asked_network devices table = numbered_of devices [] table []
+
+-- the text of the answers to these questions, and whether one fails
+pub record IsAnswering (n : Numbered) (questions : List Question) (ttl : ℕ) (r : Report) : Type 0 where
+  pub answers : List Answer
+  pub right : AreAnswers (world n.old n.links) ttl questions answers
+  pub text : r.text.items ≡ answers_text answers
+  pub affected : r.affected ≡ nat_lt 0 (failed_count answers)
+
+-- why a text is refused as questions on a network
+abbrev pub QuestionsFail : List ℕ → Network → List ℕ → Stop → Type 0
+QuestionsFail path net bytes (stop.RefusedQuestions p kind n word) = (p ≡ path) × (questions_of net bytes ≡ Err (fail.Refused kind n word))
+QuestionsFail path net bytes stop.NoMemory = Unit {0}
+QuestionsFail path net bytes _ = ⊥
+
+-- the answers to the questions that a text asks, or why there are none
+abbrev pub AsksOn : List ℕ → Numbered → ℕ → List ℕ → Result Report Stop → Type 0
+AsksOn path n ttl bytes (Ok r) = (questions : List Question) × (questions_of n.old bytes ≡ Ok (map said questions)) × IsAnswering n questions ttl r
+AsksOn path n ttl bytes (Err s) = QuestionsFail path n.old bytes s
+
+-- the folder, then the link table, which is judged with the network as both, then the file of questions, and the answers
+abbrev pub AsksWith : Told → List Loaded → LinkTable → List ℕ → ℕ → Result Report Stop → Type 0
+AsksWith t devices table questions ttl =
+    Then (GivesBytes (λ bytes. bytes) questions (content t questions)) (λ bytes. AsksOn questions (asked_network devices table) ttl bytes)
+
+abbrev pub AsksOver : Told → List Loaded → List ℕ → List ℕ → ℕ → Result Report Stop → Type 0
+AsksOver t devices links questions ttl =
+    Then (GivesTable t links wires.Both devices devices) (λ table. AsksWith t devices table questions ttl)
+
+abbrev pub Asks : Told → List ℕ → List ℕ → List ℕ → ℕ → Result Report Stop → Type 0
+Asks t net links questions ttl =
+    Then (GivesFolder (λ devices. devices) t net) (λ devices. AsksOver t devices links questions ttl)
 
 -- ---- `trace NET LINKS DEVICE INTERFACE HEADER`
 
@@ -134,6 +177,7 @@ pub record IsSummaryOf (n : Numbered) (r : Report) : Type 0 where
 abbrev pub Performs : Option Job → Told → Result Report Stop → Type 0
 Performs None t result = ⊥
 Performs (Some (job.Compare old new links new_links ttl)) t result = Compares t old new links new_links ttl result
+Performs (Some (job.Ask net links questions ttl)) t result = Asks t net links questions ttl result
 Performs (Some (job.Trace net links packet ttl)) t result = Traces t net links packet ttl result
 Performs (Some (job.Read net)) t result = Reads t net result
 Performs (Some (job.Gen number size)) t result = OrNoMemory (IsSummaryOf (networks number size)) result
@@ -145,7 +189,7 @@ Does words t result = Performs (job_of words) t result
 abbrev pub status_of_report : Report → ℕ
 status_of_report r = if r.affected then 1 else 0
 
--- the output took the whole report, behind what it took before, and the status says whether it has a row
+-- the output took the whole report, behind what it took before, and the status says whether it has a row, or a question fails
 abbrev pub Wrote : List (List ℕ) → Told → ℕ → Option (List ℕ) → Option (List ℕ) → Type 0
 Wrote words t status before now =
     (r : Report) × Does words t (Ok r) × (status ≡ status_of_report r) × (now ≡ option_map (λ taken. taken ++ r.text.items) before)

@@ -2,6 +2,7 @@
 use Rattle.std.specs.Prelude.{ℕ, List, [], ◌∷◌, ◌++◌, codes, decimal}
 use Rattle.ios_lines.specs.Kinds.{kind_text}
 use Rattle.topo_links.specs.Refusals.{refusal_text}
+use Rattle.ask_query.specs.Refusals as Questions
 use Rattle.review_core.specs.declared.stop.Stop.{Stop}
 use Rattle.review_core.specs.declared.stop.Stop.TheVariants as stop
 use Rattle.review_core.specs.Lines.{no_memory_text}
@@ -10,6 +11,7 @@ abbrev pub status_of : Stop → ℕ
 status_of (stop.RefusedConfig path refusal) = 3
 status_of (stop.HostnameTaken first second) = 3
 status_of (stop.RefusedLinks path kind line word) = 3
+status_of (stop.RefusedQuestions path kind line word) = 3
 status_of (stop.CannotRead path) = 4
 status_of (stop.TooLong path) = 5
 status_of (stop.TooManyFiles path) = 5
@@ -43,6 +45,7 @@ abbrev pub line_of : Stop → List ℕ
 line_of (stop.RefusedConfig path refusal) = refused_line path refusal.line (kind_text refusal.kind) refusal.word
 line_of (stop.HostnameTaken first second) = codes "refused " ++ second ++ codes " hostname taken by " ++ first ++ 10 ∷ []
 line_of (stop.RefusedLinks path kind line word) = refused_line path line (refusal_text kind) word
+line_of (stop.RefusedQuestions path kind line word) = refused_line path line (Questions.refusal_text kind) word
 line_of (stop.CannotRead path) = cannot_read_line path
 line_of (stop.TooLong path) = path_line (codes "too long ") path
 line_of (stop.TooManyFiles path) = path_line (codes "too many files ") path

@@ -1,15 +1,15 @@
 -- What the words of the command line ask the program to do.
-use Rattle.std.specs.Prelude.{ℕ, List, Option, None, Some, option_and_then}
+use Rattle.std.specs.Prelude.{ℕ, List, Option, Some, option_and_then}
 use Rattle.review_args.specs.declared.command.Command.{Command}
 use Rattle.review_args.specs.declared.command.Command.TheVariants as command
 use Rattle.review_args.specs.Commands.{command_of, IsTtl, IsSize}
 use Rattle.review_core.specs.declared.words.Job.{Job}
 use Rattle.review_core.specs.declared.words.Job.TheVariants as job
 
--- the job of a command. The usage has `ask` too, which isn't there yet
+-- the job of a command
 abbrev pub served : Command → Option Job
 served (command.Compare old new links new_links w t) = Some (job.Compare old new links new_links t)
-served (command.Ask net links questions w t) = None
+served (command.Ask net links questions w t) = Some (job.Ask net links questions t)
 served (command.Trace net links device interface header t) =
     Some (job.Trace net links (record { device = device; interface = interface; header = header }) t)
 served (command.Read net) = Some (job.Read net)
@@ -22,6 +22,7 @@ job_of words = option_and_then served (command_of words)
 -- its numbers are within their bounds
 abbrev pub IsWithin : Job → Type 0
 IsWithin (job.Compare old new links new_links t) = IsTtl t
+IsWithin (job.Ask net links questions t) = IsTtl t
 IsWithin (job.Trace net links packet t) = IsTtl t
 IsWithin (job.Read net) = Unit {0}
 IsWithin (job.Gen number s) = IsSize s

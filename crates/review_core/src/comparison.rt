@@ -13,16 +13,21 @@ use crate::report::{Report, any_rows};
 use crate::rewiring::compare_rewired;
 use crate::stop::Stop;
 use crate::table::{Wires, read_table};
+use crate::workers::Workers;
 use net_compare::compare;
 use net_io::Files;
 use net_load::number_all;
 use net_types::{Loaded, NoMemory, Word};
 use report_text::report_bytes;
 use std::alloc::Global;
+use std::sync::Wait;
+use std::thread::Threads;
+use steal_pool::Gate;
 use topo_links::LinkTable;
 
 /// The report on two folders, wired by a link table; or by one each, where there are new links.
-pub(crate) fn compare_folders<F: Files>(
+pub(crate) fn compare_folders<F: Files, R: Threads + Wait + Sync, G: Gate + Sync>(
+    by: &Workers<R, G>,
     alloc: Global,
     files: &mut F,
     old: &str,
@@ -37,13 +42,14 @@ pub(crate) fn compare_folders<F: Files>(
     ensures same { F.told files.new ≡ F.told files.old }
 {
     match read_folder(alloc, files, old) {
-        Ok(old) => compare_with(alloc, files, old, new, links, new_links, ttl),
+        Ok(old) => compare_with(by, alloc, files, old, new, links, new_links, ttl),
         Err(stop) => Err(stop),
     }
 }
 
 // The report on the old network, and on a folder and the link tables.
-fn compare_with<F: Files>(
+fn compare_with<F: Files, R: Threads + Wait + Sync, G: Gate + Sync>(
+    by: &Workers<R, G>,
     alloc: Global,
     files: &mut F,
     old: Vec<Loaded>,
@@ -59,13 +65,14 @@ fn compare_with<F: Files>(
     ensures same { F.told files.new ≡ F.told files.old }
 {
     match read_folder(alloc, files, new) {
-        Ok(new) => compare_over(alloc, files, old, new, links, new_links, ttl),
+        Ok(new) => compare_over(by, alloc, files, old, new, links, new_links, ttl),
         Err(stop) => Err(stop),
     }
 }
 
 // The report on two networks and the link tables.
-fn compare_over<F: Files>(
+fn compare_over<F: Files, R: Threads + Wait + Sync, G: Gate + Sync>(
+    by: &Workers<R, G>,
     alloc: Global,
     files: &mut F,
     old: Vec<Loaded>,
@@ -82,13 +89,23 @@ fn compare_over<F: Files>(
     ensures same { F.told files.new ≡ F.told files.old }
 {
     match new_links {
-        None => compare_shared(alloc, files, old, new, links, ttl),
-        Some(new_links) => compare_rewired(alloc, files, old, new, links, new_links.as_str(), ttl),
+        None => compare_shared(by, alloc, files, old, new, links, ttl),
+        Some(new_links) => compare_rewired(
+            by,
+            alloc,
+            files,
+            old,
+            new,
+            links,
+            new_links.as_str(),
+            ttl,
+        ),
     }
 }
 
 // The report on two networks and the link table of both.
-fn compare_shared<F: Files>(
+fn compare_shared<F: Files, R: Threads + Wait + Sync, G: Gate + Sync>(
+    by: &Workers<R, G>,
     alloc: Global,
     files: &mut F,
     old: Vec<Loaded>,
@@ -104,12 +121,13 @@ fn compare_shared<F: Files>(
     ensures same { F.told files.new ≡ F.told files.old }
 {
     match read_table(alloc, files, links, Wires::Both, &old, &new) {
-        Ok(table) => report_over(alloc, old, new, &table, ttl),
+        Ok(table) => report_over(by, alloc, old, new, &table, ttl),
         Err(stop) => Err(stop),
     }
 }
 
-fn report_over(
+fn report_over<R: Threads + Wait + Sync, G: Gate + Sync>(
+    by: &Workers<R, G>,
     alloc: Global,
     old: Vec<Loaded>,
     new: Vec<Loaded>,
@@ -122,12 +140,13 @@ fn report_over(
     requires ttl { IsTtl ttl }
     ensures { OrNoMemory (IsShared (numbered_of old.items new.items table.now []) ttl) result }
 {
-    let report = report_on(alloc, old, new, table, ttl)?;
+    let report = report_on(by, alloc, old, new, table, ttl)?;
     Ok(report)
 }
 
 // The report on two networks with these links.
-fn report_on(
+fn report_on<R: Threads + Wait + Sync, G: Gate + Sync>(
+    by: &Workers<R, G>,
     alloc: Global,
     old: Vec<Loaded>,
     new: Vec<Loaded>,
@@ -139,7 +158,16 @@ fn report_on(
     ensures { IfOk result (IsShared (numbered_of old.items new.items table.now []) ttl) }
 {
     let numbered = number_all(alloc, old, new, table, &[])?;
-    let sections = compare(alloc, &numbered.old, &numbered.new, &numbered.links, ttl)?;
+    let sections = compare(
+        by.rt,
+        alloc,
+        &numbered.old,
+        &numbered.new,
+        &numbered.links,
+        ttl,
+        by.count,
+        by.gate,
+    )?;
     let text = report_bytes(alloc, &numbered.names, &sections)?;
     let affected = any_rows(&sections);
     Ok(Report { text, affected })

@@ -1,7 +1,9 @@
 //! The program as one call: the words of the command line in, a report and a status out.
 #![tactic(auto)]
 
+mod asking;
 mod comparison;
+mod file;
 mod folder;
 mod generated;
 pub mod laws;
@@ -13,6 +15,7 @@ mod table;
 mod top;
 mod tracing;
 mod words;
+mod workers;
 
 pub use report::Report;
 pub use stop::Stop;

@@ -8,7 +8,7 @@ use net_types::Section;
 #[derive(Drop)]
 pub struct Report {
     pub text: Vec<u8>,
-    /// Whether it has a row: some header is affected.
+    /// Whether it has a row, or a question that fails: some header is affected, or breaks it.
     pub affected: bool,
 }
 

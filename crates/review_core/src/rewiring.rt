@@ -13,6 +13,7 @@ ghost use Rattle.review_core.specs.Job.{ComparesOver, Rewires, IsRewired, OrNoMe
 use crate::report::{Report, any_rows};
 use crate::stop::Stop;
 use crate::table::{Wires, read_table};
+use crate::workers::Workers;
 use net_compare::compare_worlds;
 use net_io::Files;
 use net_load::{NumberedBoth, number_both};
@@ -20,10 +21,14 @@ use net_types::{Loaded, NoMemory, Section};
 use net_view::WorldRef;
 use report_text::report_bytes;
 use std::alloc::Global;
+use std::sync::Wait;
+use std::thread::Threads;
+use steal_pool::Gate;
 use topo_links::LinkTable;
 
 /// The report on two networks and a link table of each.
-pub(crate) fn compare_rewired<F: Files>(
+pub(crate) fn compare_rewired<F: Files, R: Threads + Wait + Sync, G: Gate + Sync>(
+    by: &Workers<R, G>,
     alloc: Global,
     files: &mut F,
     old: Vec<Loaded>,
@@ -40,13 +45,14 @@ pub(crate) fn compare_rewired<F: Files>(
     ensures same { F.told files.new ≡ F.told files.old }
 {
     match read_table(alloc, files, links, Wires::First, &old, &new) {
-        Ok(table) => rewire(alloc, files, old, new, &table, new_links, ttl),
+        Ok(table) => rewire(by, alloc, files, old, new, &table, new_links, ttl),
         Err(stop) => Err(stop),
     }
 }
 
 // The report on two networks, the old one's table and the file of the new one's.
-fn rewire<F: Files>(
+fn rewire<F: Files, R: Threads + Wait + Sync, G: Gate + Sync>(
+    by: &Workers<R, G>,
     alloc: Global,
     files: &mut F,
     old: Vec<Loaded>,
@@ -64,12 +70,13 @@ fn rewire<F: Files>(
     ensures same { F.told files.new ≡ F.told files.old }
 {
     match read_table(alloc, files, new_links, Wires::First, &new, &old) {
-        Ok(new_table) => report_rewired(alloc, old, new, table, &new_table, ttl),
+        Ok(new_table) => report_rewired(by, alloc, old, new, table, &new_table, ttl),
         Err(stop) => Err(stop),
     }
 }
 
-fn report_rewired(
+fn report_rewired<R: Threads + Wait + Sync, G: Gate + Sync>(
+    by: &Workers<R, G>,
     alloc: Global,
     old: Vec<Loaded>,
     new: Vec<Loaded>,
@@ -84,12 +91,13 @@ fn report_rewired(
     requires ttl { IsTtl ttl }
     ensures { OrNoMemory (IsRewired (numbered_both old.items new.items table.now new_table.now []) ttl) result }
 {
-    let report = report_on(alloc, old, new, table, new_table, ttl)?;
+    let report = report_on(by, alloc, old, new, table, new_table, ttl)?;
     Ok(report)
 }
 
 // The report on two networks with these links of each.
-fn report_on(
+fn report_on<R: Threads + Wait + Sync, G: Gate + Sync>(
+    by: &Workers<R, G>,
     alloc: Global,
     old: Vec<Loaded>,
     new: Vec<Loaded>,
@@ -102,21 +110,31 @@ fn report_on(
     ensures { IfOk result (IsRewired (numbered_both old.items new.items table.now new_table.now []) ttl) }
 {
     let numbered = number_both(alloc, old, new, table, new_table, &[])?;
-    report_of(alloc, &numbered, ttl)
+    report_of(by, alloc, &numbered, ttl)
 }
 
-fn report_of(alloc: Global, numbered: &NumberedBoth, ttl: u8) -> Result<Report, NoMemory>
+fn report_of<R: Threads + Wait + Sync, G: Gate + Sync>(
+    by: &Workers<R, G>,
+    alloc: Global,
+    numbered: &NumberedBoth,
+    ttl: u8,
+) -> Result<Report, NoMemory>
     requires { IsTtl ttl }
     ensures { IfOk result (IsRewired numbered.now ttl) }
 {
-    let sections = sections_of(alloc, numbered, ttl)?;
+    let sections = sections_of(by, alloc, numbered, ttl)?;
     let text = report_bytes(alloc, &numbered.names, &sections)?;
     let affected = any_rows(&sections);
     Ok(Report { text, affected })
 }
 
 // Both networks, each with its own links, from the ingresses of either.
-fn sections_of(alloc: Global, numbered: &NumberedBoth, ttl: u8) -> Result<Vec<Section>, NoMemory>
+fn sections_of<R: Threads + Wait + Sync, G: Gate + Sync>(
+    by: &Workers<R, G>,
+    alloc: Global,
+    numbered: &NumberedBoth,
+    ttl: u8,
+) -> Result<Vec<Section>, NoMemory>
     requires { IsTtl ttl }
     ensures { IfOk result (λ sections. IsReport numbered.now.ingress (world numbered.now.old numbered.now.old_links) (world numbered.now.new numbered.now.new_links) ttl sections.items) }
 {
@@ -128,5 +146,14 @@ fn sections_of(alloc: Global, numbered: &NumberedBoth, ttl: u8) -> Result<Vec<Se
         network: &numbered.new,
         links: &numbered.new_links,
     };
-    compare_worlds(alloc, before, after, numbered.ingress.as_slice(), ttl)
+    compare_worlds(
+        by.rt,
+        alloc,
+        before,
+        after,
+        numbered.ingress.as_slice(),
+        ttl,
+        by.count,
+        by.gate,
+    )
 }

@@ -3,6 +3,7 @@ ghost use Rattle.review_core.specs.Stops.{status_of, line_of, word_text};
 ghost use Rattle.ios_lines.specs.Kinds.{kind_text};
 ghost use Rattle.review_core.specs.Stops.{refused_head, refused_tail, refused_line};
 
+use ask_query::QuestionRefusal;
 use ios_lines::Refusal;
 use net_types::{NoMemory, Text};
 use report_text::decimal_bytes;
@@ -29,6 +30,13 @@ pub enum Stop {
     RefusedLinks {
         path: Text,
         kind: LinkRefusal,
+        line: u32,
+        word: Text,
+    },
+    /// A file of questions is refused.
+    RefusedQuestions {
+        path: Text,
+        kind: QuestionRefusal,
         line: u32,
         word: Text,
     },
@@ -72,6 +80,7 @@ impl Stop {
             Stop::RefusedConfig { .. } => 3,
             Stop::HostnameTaken { .. } => 3,
             Stop::RefusedLinks { .. } => 3,
+            Stop::RefusedQuestions { .. } => 3,
             Stop::CannotRead { .. } => 4,
             Stop::TooLong { .. } => 5,
             Stop::TooManyFiles { .. } => 5,
@@ -95,6 +104,19 @@ impl Stop {
                 append(&mut line, b"\n")?;
             }
             Stop::RefusedLinks {
+                path,
+                kind,
+                line: number,
+                word,
+            } => append_refused(
+                alloc,
+                &mut line,
+                path,
+                *number,
+                kind.name().as_bytes(),
+                word,
+            )?,
+            Stop::RefusedQuestions {
                 path,
                 kind,
                 line: number,

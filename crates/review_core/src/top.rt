@@ -9,16 +9,21 @@ ghost use Rattle.review_core.specs.Accepted.{IsAccepted};
 ghost use Rattle.review_core.specs.declared.stop.Stop.{Stop};
 ghost use Rattle.review_core.specs.Job.{Performs, Wrote, WrotePart, StoppedWith, Said, Tells, status_of_report};
 
+use crate::asking::ask_in_folder;
 use crate::comparison::compare_folders;
 use crate::generated::compare_generated;
 use crate::reading::read_network;
 use crate::report::Report;
 use crate::stop::{NO_MEMORY, Stop};
 use crate::tracing::trace_in_folder;
-use crate::words::{Job, job_of};
+use crate::words::{Job, asked_of};
+use crate::workers::Workers;
 use net_io::{Files, Sink, write_all};
 use review_args::WordsFail;
 use std::alloc::Global;
+use std::sync::Wait;
+use std::thread::Threads;
+use steal_pool::Gate;
 
 // What is written where the words are outside the usage.
 const USAGE: &[u8] = b"usage:
@@ -32,19 +37,23 @@ const USAGE: &[u8] = b"usage:
 // What is written where the output took no more.
 const CANNOT_WRITE: &[u8] = b"cannot write\n";
 
-/// Does what the words of the command line ask, and answers the status.
-pub fn run<F: Files, O: Sink, E: Sink>(
+/// Does what the words of the command line ask, and answers the status. Networks are compared by as many workers as the words
+/// say, each of which passes the gate before it works on a region; for every number of them and every interleaving the bytes
+/// are the same.
+pub fn run<F: Files, O: Sink, E: Sink, G: Gate + Sync, R: Threads + Wait + Sync>(
+    rt: &R,
     alloc: Global,
     words: &[String],
     files: &mut F,
     out: &mut O,
     err: &mut E,
+    gate: &G,
 ) -> u8
     // The words alone decide whether they are within the usage, but for want of memory to read them.
     ensures usage { result ≡ 2 → job_of (map string_bytes words.now) ≡ None }
     ensures refused { job_of (map string_bytes words.now) ≡ None → (result ≡ 2) ⊎ (result ≡ 7) }
 
-    // Statuses 0 and 1 come with exactly the report of the job, 1 exactly where it has a row.
+    // Statuses 0 and 1 come with exactly the report of the job, 1 exactly where it has a row or a question fails.
     ensures written { IfSome (F.told files.old) (λ t. (result ≡ 0) ⊎ (result ≡ 1)
         → Wrote (map string_bytes words.now) t result (O.taken out.old) (O.taken out.new)) }
 
@@ -80,12 +89,17 @@ pub fn run<F: Files, O: Sink, E: Sink>(
     ensures line { (result ≡ 3) ⊎ ((result ≡ 5) ⊎ (result ≡ 8))
         → (s : Stop) × (result ≡ status_of s) × Said (line_of s) (E.taken err.old) (E.taken err.new) (E.faults err.old) (E.faults err.new) }
 {
-    let job = match job_of(alloc, words) {
-        Ok(job) => job,
+    let asked = match asked_of(alloc, words) {
+        Ok(asked) => asked,
         Err(WordsFail::Refused) => return refuse(err),
         Err(WordsFail::NoMemory) => return no_memory(err),
     };
-    match perform(alloc, &job, files) {
+    let by = Workers {
+        rt,
+        gate,
+        count: asked.workers,
+    };
+    match perform(&by, alloc, &asked.job, files) {
         Ok(report) => write_report(&report, out, err),
         Err(stop) => tell(alloc, &stop, err),
     }
@@ -101,7 +115,12 @@ pub fn no_memory<E: Sink>(err: &mut E) -> u8
 }
 
 // Does the job.
-fn perform<F: Files>(alloc: Global, job: &Job, files: &mut F) -> Result<Report, Stop>
+fn perform<F: Files, R: Threads + Wait + Sync, G: Gate + Sync>(
+    by: &Workers<R, G>,
+    alloc: Global,
+    job: &Job,
+    files: &mut F,
+) -> Result<Report, Stop>
     requires { IsWithin job.now }
     ensures job { IfSome (F.told files.old) (λ t. Performs (Some job.now) t result) }
     ensures cause { HasCause (F.faults files.old) (F.faults files.new) result }
@@ -114,12 +133,26 @@ fn perform<F: Files>(alloc: Global, job: &Job, files: &mut F) -> Result<Report, 
             new_links,
             ttl,
         } => compare_folders(
+            by,
             alloc,
             files,
             old.as_str(),
             new.as_str(),
             links.as_str(),
             new_links,
+            *ttl,
+        ),
+        Job::Ask {
+            net,
+            links,
+            questions,
+            ttl,
+        } => ask_in_folder(
+            alloc,
+            files,
+            net.as_str(),
+            links.as_str(),
+            questions.as_str(),
             *ttl,
         ),
         Job::Trace {
@@ -129,7 +162,7 @@ fn perform<F: Files>(alloc: Global, job: &Job, files: &mut F) -> Result<Report, 
             ttl,
         } => trace_in_folder(alloc, files, net.as_str(), links.as_str(), packet, *ttl),
         Job::Read { net } => read_network(alloc, files, net.as_str()),
-        Job::Gen { number, size } => compare_generated(alloc, *number, *size),
+        Job::Gen { number, size } => compare_generated(by, alloc, *number, *size),
     }
 }
 
@@ -142,7 +175,7 @@ fn refuse<E: Sink>(err: &mut E) -> u8
     2
 }
 
-// Writes the report, and answers whether it has a row.
+// Writes the report, and answers the status: whether it has a row, or a question fails.
 fn write_report<O: Sink, E: Sink>(report: &Report, out: &mut O, err: &mut E) -> u8
     ensures written { (result ≡ 6) ⊎ ((result ≡ status_of_report report.now) × (O.taken out.new ≡ option_map (λ taken. taken ++ report.now.text.items) (O.taken out.old))) }
     ensures part { result ≡ 6 → TookPrefix (O.taken out.old) report.now.text.items (O.taken out.new) }

@@ -1,4 +1,4 @@
-ghost use Rattle.std.specs.Prelude.{◌≡◌, IfOk, IfSome, None, Some, Err, map, string_bytes};
+ghost use Rattle.std.specs.Prelude.{◌≡◌, ◌≤◌, IfOk, IfSome, None, Some, Err, map, string_bytes};
 ghost use Rattle.review_args.specs.Commands as Commands;
 ghost use Rattle.review_core.specs.Words.{served, job_of, IsWithin};
 
@@ -26,6 +26,13 @@ pub enum Job {
         new_links: Option<Word>,
         ttl: u8,
     },
+    /// The answers to the questions of a file on a network.
+    Ask {
+        net: Word,
+        links: Word,
+        questions: Word,
+        ttl: u8,
+    },
     /// The trace of a packet in a network.
     Trace {
         net: Word,
@@ -44,16 +51,39 @@ pub enum Job {
     },
 }
 
+/// What is asked, and by how many workers it is to be done.
+#[derive(Drop)]
+pub(crate) struct Asked {
+    pub(crate) job: Job,
+    pub(crate) workers: u32,
+    pub(crate) ghost least: { 1 ≤ workers },
+    pub(crate) ghost most: { workers ≤ 64 },
+}
+
 /// What the words of the command line ask. Refused comes exactly where they are outside the usage.
-pub(crate) fn job_of(alloc: Global, words: &[String]) -> Result<Job, WordsFail>
-    ensures job { IfOk result (λ job. job_of (map string_bytes words.now) ≡ Some job) }
+pub(crate) fn asked_of(alloc: Global, words: &[String]) -> Result<Asked, WordsFail>
+    ensures job { IfOk result (λ asked. job_of (map string_bytes words.now) ≡ Some asked.job) }
     ensures refused { result ≡ Err WordsFail.Refused → job_of (map string_bytes words.now) ≡ None }
-    ensures within { IfOk result IsWithin }
+    ensures within { IfOk result (λ asked. IsWithin asked.job) }
 {
     let command = read_words(alloc, words)?;
+    let workers = workers_of(&command);
     match served(command) {
-        Some(job) => Ok(job),
+        Some(job) => Ok(Asked { job, workers }),
         None => Err(WordsFail::Refused),
+    }
+}
+
+// How many workers a command has; one, where it has no use for more.
+fn workers_of(command: &Command) -> u32
+    requires { Commands.IsWithin command.now }
+    ensures { (1 ≤ result) × (result ≤ 64) }
+{
+    match command {
+        Command::Compare { workers, .. } => *workers,
+        Command::Ask { workers, .. } => *workers,
+        Command::Gen { workers, .. } => *workers,
+        Command::Trace { .. } | Command::Read { .. } => 1,
     }
 }
 
@@ -78,7 +108,18 @@ fn served(command: Command) -> Option<Job>
             new_links,
             ttl,
         }),
-        Command::Ask { .. } => None,
+        Command::Ask {
+            net,
+            links,
+            questions,
+            workers: _,
+            ttl,
+        } => Some(Job::Ask {
+            net,
+            links,
+            questions,
+            ttl,
+        }),
         Command::Trace {
             net,
             links,

@@ -7,37 +7,50 @@ use crate::stop::Stop;
 use net_io::MemFiles;
 use std::alloc::Global;
 use std::fs;
+use std::sync::Wait;
+use std::thread::Threads;
 
-pub(crate) fn show(rt: &HostRuntime) -> Result<(), Stop> {
+pub(crate) fn show<R: Threads + Wait + Sync>(rt: &HostRuntime, threads: &R) -> Result<(), Stop> {
     let cases = fs::read_to_string(rt, "comparisons")?;
     for case in cases.as_str().split("== ").skip(1) {
-        show_case(rt, case)?;
+        show_case(rt, threads, case)?;
     }
     Ok(())
 }
 
-fn show_case(rt: &HostRuntime, case: &str) -> Result<(), Stop> {
+fn show_case<R: Threads + Wait + Sync>(
+    rt: &HostRuntime,
+    threads: &R,
+    case: &str,
+) -> Result<(), Stop> {
     let (name, given) = case.split_once('\n').unwrap_or((case, ""));
     println!(rt; "== {name}")?;
     let mut files = files_of(rt.alloc(), given)?;
-    show_run(rt, &mut files, &COMPARE, 10_000)
+    show_run(rt, threads, &mut files, &COMPARE, 10_000)
 }
 
-pub(crate) fn show_commands(rt: &HostRuntime) -> Result<(), Stop> {
+pub(crate) fn show_commands<R: Threads + Wait + Sync>(
+    rt: &HostRuntime,
+    threads: &R,
+) -> Result<(), Stop> {
     let cases = fs::read_to_string(rt, "commands")?;
     for case in cases.as_str().split("== ").skip(1) {
-        show_commands_of(rt, case)?;
+        show_commands_of(rt, threads, case)?;
     }
     Ok(())
 }
 
-fn show_commands_of(rt: &HostRuntime, case: &str) -> Result<(), Stop> {
+fn show_commands_of<R: Threads + Wait + Sync>(
+    rt: &HostRuntime,
+    threads: &R,
+    case: &str,
+) -> Result<(), Stop> {
     let (name, given) = case.split_once('\n').unwrap_or((case, ""));
     println!(rt; "== {name}")?;
     let mut files = files_of(rt.alloc(), given)?;
     for line in given.lines() {
         if let Some(words) = line.strip_prefix("$ ") {
-            show_line(rt, &mut files, words)?;
+            show_line(rt, threads, &mut files, words)?;
         }
     }
     Ok(())

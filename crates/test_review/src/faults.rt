@@ -2,9 +2,14 @@
 
 use crate::runs::{COMPARE, INGRESS_SHUT, TWO_LINKS, one_each, show_run};
 use crate::stop::Stop;
+use std::sync::Wait;
+use std::thread::Threads;
 
 /// Words that are no command, and folders that aren't there.
-pub(crate) fn show_words(rt: &HostRuntime) -> Result<(), Stop> {
+pub(crate) fn show_words<R: Threads + Wait + Sync>(
+    rt: &HostRuntime,
+    threads: &R,
+) -> Result<(), Stop> {
     let cases: [&[&str]; 8] = [
         &[],
         &["compare", "old", "new"],
@@ -18,32 +23,42 @@ pub(crate) fn show_words(rt: &HostRuntime) -> Result<(), Stop> {
     let mut files = one_each(rt.alloc(), TWO_LINKS, INGRESS_SHUT)?;
     for words in cases {
         println!(rt; "== {words:?}")?;
-        show_run(rt, &mut files, words, 100)?;
+        show_run(rt, threads, &mut files, words, 100)?;
     }
     Ok(())
 }
 
 /// The report has 533 bytes.
-pub(crate) fn show_rooms(rt: &HostRuntime) -> Result<(), Stop> {
+pub(crate) fn show_rooms<R: Threads + Wait + Sync>(
+    rt: &HostRuntime,
+    threads: &R,
+) -> Result<(), Stop> {
     let mut files = one_each(rt.alloc(), TWO_LINKS, INGRESS_SHUT)?;
     for room in [0, 100, 532, 533] {
         println!(rt; "== room for {room}")?;
-        show_run(rt, &mut files, &COMPARE, room)?;
+        show_run(rt, threads, &mut files, &COMPARE, room)?;
     }
     Ok(())
 }
 
 /// The calls are two listings and two reads of each of three files.
-pub(crate) fn show_faults(rt: &HostRuntime) -> Result<(), Stop> {
+pub(crate) fn show_faults<R: Threads + Wait + Sync>(
+    rt: &HostRuntime,
+    threads: &R,
+) -> Result<(), Stop> {
     for call in 0..9 {
         println!(rt; "== call {call} fails")?;
-        show_fault(rt, call)?;
+        show_fault(rt, threads, call)?;
     }
     Ok(())
 }
 
-fn show_fault(rt: &HostRuntime, call: u64) -> Result<(), Stop> {
+fn show_fault<R: Threads + Wait + Sync>(
+    rt: &HostRuntime,
+    threads: &R,
+    call: u64,
+) -> Result<(), Stop> {
     let mut files = one_each(rt.alloc(), TWO_LINKS, TWO_LINKS)?;
     files.fail_at(call);
-    show_run(rt, &mut files, &COMPARE, 100)
+    show_run(rt, threads, &mut files, &COMPARE, 100)
 }

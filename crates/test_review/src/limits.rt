@@ -4,6 +4,8 @@ use crate::runs::{COMPARE, show_run};
 use crate::stop::Stop;
 use net_io::MemFiles;
 use std::alloc::Global;
+use std::sync::Wait;
+use std::thread::Threads;
 
 /// A folder `old` of so many files, each of so many bytes, and a folder `new` with R1 alone.
 fn files_of(alloc: Global, count: usize, size: usize) -> Result<MemFiles, Stop> {
@@ -33,7 +35,7 @@ fn long_text(alloc: Global, i: usize, size: usize) -> Result<Vec<u8>, Stop> {
     Ok(text)
 }
 
-pub(crate) fn show(rt: &HostRuntime) -> Result<(), Stop> {
+pub(crate) fn show<R: Threads + Wait + Sync>(rt: &HostRuntime, threads: &R) -> Result<(), Stop> {
     let cases = [
         (1024, 0),
         (1025, 0),
@@ -45,15 +47,15 @@ pub(crate) fn show(rt: &HostRuntime) -> Result<(), Stop> {
     for (count, size) in cases {
         println!(rt; "== {count} files of {size} bytes")?;
         let mut files = files_of(rt.alloc(), count, size)?;
-        show_run(rt, &mut files, &COMPARE, 1_000)?;
+        show_run(rt, threads, &mut files, &COMPARE, 1_000)?;
     }
-    show_last_file(rt)
+    show_last_file(rt, threads)
 }
 
 /// Four files fill the folder, and a fifth of 12 bytes passes its limit.
-fn show_last_file(rt: &HostRuntime) -> Result<(), Stop> {
+fn show_last_file<R: Threads + Wait + Sync>(rt: &HostRuntime, threads: &R) -> Result<(), Stop> {
     println!(rt; "== 4 files of 16777216 bytes and one of 12")?;
     let mut files = files_of(rt.alloc(), 4, 16_777_216)?;
     put_file(rt.alloc(), &mut files, 4, 12)?;
-    show_run(rt, &mut files, &COMPARE, 1_000)
+    show_run(rt, threads, &mut files, &COMPARE, 1_000)
 }

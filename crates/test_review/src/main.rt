@@ -15,14 +15,16 @@ mod system;
 
 use crate::stop::Stop;
 use std::io;
+use std::sync::Wait;
+use std::thread::Threads;
 
-fn show_all(rt: &HostRuntime) -> Result<(), Stop> {
-    comparisons::show(rt)?;
-    faults::show_words(rt)?;
-    faults::show_rooms(rt)?;
-    faults::show_faults(rt)?;
-    limits::show(rt)?;
-    comparisons::show_commands(rt)?;
+fn show_all<R: Threads + Wait + Sync>(rt: &HostRuntime, threads: &R) -> Result<(), Stop> {
+    comparisons::show(rt, threads)?;
+    faults::show_words(rt, threads)?;
+    faults::show_rooms(rt, threads)?;
+    faults::show_faults(rt, threads)?;
+    limits::show(rt, threads)?;
+    comparisons::show_commands(rt, threads)?;
     show_parts(rt)
 }
 
@@ -40,7 +42,7 @@ fn show_parts(rt: &HostRuntime) -> Result<(), Stop> {
 }
 
 fn main(rt: HostRuntime) -> io::Result<()> {
-    match show_all(&rt) {
+    match show_all(&rt, &rt) {
         Ok(()) => Ok(()),
         Err(Stop::NoMemory) => println!(rt; "no memory"),
         Err(Stop::Output { error }) => Err(error),

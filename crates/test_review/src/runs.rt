@@ -5,6 +5,9 @@ use net_io::{MemFiles, MemSink};
 use review_core::run;
 use std::alloc::{AllocError, Global};
 use std::io::Write;
+use std::sync::Wait;
+use std::thread::Threads;
+use steal_pool::OpenGate;
 
 /// The words of a comparison of the folders `old` and `new`.
 pub(crate) const COMPARE: [&str; 4] = ["compare", "old", "new", "links"];
@@ -18,32 +21,47 @@ fn strings(alloc: Global, words: &[&str]) -> Result<Vec<String>, AllocError> {
 }
 
 /// Runs the words where the output has so much room, and shows the status and what was written.
-pub(crate) fn show_run(
+pub(crate) fn show_run<R: Threads + Wait + Sync>(
     rt: &HostRuntime,
+    threads: &R,
     files: &mut MemFiles,
     words: &[&str],
     room: usize,
 ) -> Result<(), Stop> {
     let words = strings(rt.alloc(), words)?;
-    show_words(rt, files, &words, room)
+    show_words(rt, threads, files, &words, room)
 }
 
 /// Runs the words of a command line, with a blank between words, and shows them, the status and what was written.
-pub(crate) fn show_line(rt: &HostRuntime, files: &mut MemFiles, line: &str) -> Result<(), Stop> {
+pub(crate) fn show_line<R: Threads + Wait + Sync>(
+    rt: &HostRuntime,
+    threads: &R,
+    files: &mut MemFiles,
+    line: &str,
+) -> Result<(), Stop> {
     println!(rt; "$ {line}")?;
     let words: Vec<&str> = line.split(' ').collect(rt.alloc())?;
-    show_run(rt, files, &words, 10_000)
+    show_run(rt, threads, files, &words, 10_000)
 }
 
-fn show_words(
+fn show_words<R: Threads + Wait + Sync>(
     rt: &HostRuntime,
+    threads: &R,
     files: &mut MemFiles,
     words: &[String],
     room: usize,
 ) -> Result<(), Stop> {
     let mut out = MemSink::new(rt.alloc(), room)?;
     let mut err = MemSink::new(rt.alloc(), 1000)?;
-    let status = run(rt.alloc(), words, files, &mut out, &mut err);
+    let status = run(
+        threads,
+        rt.alloc(),
+        words,
+        files,
+        &mut out,
+        &mut err,
+        &OpenGate,
+    );
     println!(rt; "status {status}")?;
     show_lines(rt, out.taken())?;
     show_lines(rt, err.taken())

@@ -5,4 +5,4 @@ use Rattle.review_core.specs.Job.{IsSummaryOf}
 use Rattle.review_core.proofs.generated.generated.Goals as goal
 
 pub returns : goal.returns
-returns c = subst (λ (n : Numbered). IfOk c.summary_of.result (IsSummaryOf n)) c.in_ok-numbered.ensures c.summary_of.ensures
+returns g c = subst (λ (n : Numbered). IfOk c.summary_of.result (IsSummaryOf n)) c.in_ok-numbered.ensures c.summary_of.ensures

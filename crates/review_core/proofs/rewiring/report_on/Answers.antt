@@ -5,4 +5,4 @@ use Rattle.review_core.specs.Job.{IsRewired}
 use Rattle.review_core.proofs.rewiring.report_on.Goals as goal
 
 pub returns : goal.returns
-returns c = subst (λ (n : NumberedBoth). IfOk c.report_of.result (IsRewired n c.args.ttl)) c.in_ok-numbered.ensures c.report_of.ensures
+returns g c = subst (λ (n : NumberedBoth). IfOk c.report_of.result (IsRewired n c.args.ttl)) c.in_ok-numbered.ensures c.report_of.ensures

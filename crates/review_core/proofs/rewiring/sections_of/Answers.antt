@@ -6,6 +6,6 @@ use Rattle.net_compare.specs.Networks.{world}
 use Rattle.review_core.proofs.rewiring.sections_of.Goals as goal
 
 pub returns : goal.returns
-returns c =
+returns g c =
     let n = c.args.numbered.now in
     subst (λ (places : List Place). IfOk c.compare_worlds.result (λ sections. IsReport places (world n.old n.old_links) (world n.new n.new_links) c.args.ttl sections.items)) c.as_slice.ensures c.compare_worlds.ensures

@@ -1,0 +1,140 @@
+//! Tables with the same functions, in which workers walk.
+
+ghost use Rattle.std.specs.Prelude.{◌≡◌, IfOk, IfSome};
+ghost use Rattle.cube_diagram.specs.Functions.{Keeps};
+
+use cube_diagram::Diagrams;
+use indexmap::IndexMap;
+use net_types::NoMemory;
+use std::alloc::Global;
+use std::marker::{Brand, Model, PhantomData};
+use std::sync::{Mutex, Wait};
+
+/// The table that all workers read, named by a type: what a shared list of twins has is known by its type alone.
+pub(crate) trait Base {
+    ghost use Rattle.cube_diagram.specs.Functions.{Functions};
+
+    ghost base: { Functions };
+}
+
+impl Base for Brand {
+    ghost use Rattle.std.specs.Prelude.{[]};
+
+    ghost base = { [] };
+}
+
+/// A table in which each number of the base stands for the same function.
+#[derive(Drop)]
+pub(crate) struct Twin<B: Base> {
+    table: Diagrams,
+    base: PhantomData<B>,
+}
+
+impl<B: Base> Model for Twin<B> {
+    ghost use Rattle.cube_diagram.specs.Functions.{Functions, Keeps};
+
+    ghost Value = { Functions };
+
+    ghost view = { λ t. t.table };
+
+    ghost invariant = { λ t. Keeps B.base t.table };
+}
+
+impl<B: Base> Twin<B> {
+    fn of(table: Diagrams) -> Twin<B>
+        requires { Keeps B.base table }
+    {
+        Twin {
+            table,
+            base: PhantomData,
+        }
+    }
+
+    fn into_table(self) -> Diagrams
+        ensures { Keeps B.base result }
+    {
+        let Twin { table, base: _ } = self;
+        table
+    }
+}
+
+/// Twins in which no worker walks. What walks from one ingress have found is often found again by those from the next one, so
+/// a worker takes a twin that is there, before it makes one.
+#[derive(Drop)]
+pub(crate) struct Twins<B: Base> {
+    spare: Mutex<Vec<Twin<B>>>,
+}
+
+impl<B: Base> Twins<B> {
+    /// No twins yet.
+    pub(crate) fn new(alloc: Global) -> Twins<B> {
+        Twins {
+            spare: Mutex::new(Vec::new(alloc)),
+        }
+    }
+
+    /// One table.
+    pub(crate) fn of(alloc: Global, table: Diagrams) -> Result<Twins<B>, NoMemory>
+        requires { Keeps B.base table }
+    {
+        let mut spare = Vec::new(alloc);
+        spare.push(Twin::of(table))?;
+        Ok(Twins {
+            spare: Mutex::new(spare),
+        })
+    }
+
+    /// A table with the functions of the base: one that is there, else a copy of the base. Without a base there is no memory
+    /// for more than are there.
+    pub(crate) fn take<R: Wait>(
+        &self,
+        rt: &R,
+        alloc: Global,
+        base: Option<&Diagrams>,
+    ) -> Result<Diagrams, NoMemory>
+        requires { IfSome base (λ b. B.base ≡ b.now) }
+        ensures { IfOk result (Keeps B.base) }
+    {
+        match self.found(rt) {
+            Some(twin) => Ok(twin.into_table()),
+            None => {
+                let table = copied(alloc, base.ok_or(NoMemory)?)?;
+                Ok(table)
+            }
+        }
+    }
+
+    fn found<R: Wait>(&self, rt: &R) -> Option<Twin<B>> {
+        self.spare.lock(rt).pop()
+    }
+
+    /// Takes it back. Without memory it is given up.
+    pub(crate) fn give_back<R: Wait>(&self, rt: &R, table: Diagrams)
+        requires { Keeps B.base table }
+    {
+        let _ = self.spare.lock(rt).push(Twin::of(table));
+    }
+}
+
+// A table in which each number of this one stands for the same function. It grows apart.
+fn copied(alloc: Global, base: &Diagrams) -> Result<Diagrams, NoMemory>
+    ensures { IfOk result (Keeps base.now) }
+{
+    let mut own = Diagrams::new(alloc)?;
+    let mut known = IndexMap::new(alloc);
+    for number in 0..base.count() {
+        let number = short(number)?;
+        // A table has each function once, and one behind those of which it is made: so none gets another number.
+        if own.copy_from(base, number, &mut known)? != number {
+            return Err(NoMemory);
+        }
+    }
+    Ok(own)
+}
+
+// The same number in 32 bits: where they don't hold it there is no memory for a table of so many.
+fn short(number: usize) -> Result<u32, NoMemory>
+    ensures { IfOk result (λ r. r ≡ number) }
+{
+    u32::try_from(number).map_err(|_| NoMemory)
+}

@@ -1,0 +1,4 @@
+pub mod Pairs
+pub mod Functions
+pub mod Slots
+pub mod Work

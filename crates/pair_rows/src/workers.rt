@@ -1,0 +1,78 @@
+//! The call.
+
+ghost use Rattle.std.specs.Prelude.{◌≡◌, ◌<◌, ◌≤◌, ◌^◌, ℕ, IfOk, Some, AllPairs, Any, length, slice_get};
+ghost use Rattle.task_board.specs.Regions.{Holds, LieApart};
+ghost use Rattle.pair_rows.specs.declared.leaves.SlotRows.{SlotRows};
+ghost use Rattle.pair_rows.specs.Pairs.{AreRowsWithPairs};
+
+use crate::kept::{Pairing, SlotFunction};
+use crate::leaves::{SlotRows, rows_of_leaves};
+use crate::splitter::{BySlots, PairSource};
+use cube_alg::Region;
+use hdr_bits::Cube;
+use net_types::NoMemory;
+use once_cell::race::OnceBox;
+use std::alloc::Global;
+use std::marker::PhantomData;
+use std::sync::Wait;
+use std::thread::Threads;
+use steal_pool::{Gate, roots_of, run};
+
+/// The rows of each of so many slots, by 1 to 64 workers: in each slot the canonical rows of the function from headers to
+/// pairs that the source makes for it, each row with its pair.
+///
+/// They are the same for each number of workers. A worker passes the gate before it works on a region. It answers `NoMemory`
+/// only where there was none.
+pub fn rows_by_workers<
+    M: PairSource<K> + Sync,
+    K: Pairing + Send + Sync,
+    G: Gate + Sync,
+    R: Threads + Wait + Sync,
+>(
+    rt: &R,
+    alloc: Global,
+    source: &M,
+    slots: usize,
+    workers: u32,
+    gate: &G,
+) -> Result<Vec<SlotRows>, NoMemory>
+    requires few { slots < 2 ^ 32 }
+    requires workers { (1 ≤ workers) × (workers ≤ 64) }
+    ensures count { IfOk result (λ all. length all.items ≡ slots) }
+    ensures rows { IfOk result (λ all. (k : ℕ) (s : SlotRows) → slice_get all.items k ≡ Some s → AreRowsWithPairs (K.gives k) s.rows.items) }
+{
+    let cells: Vec<OnceBox<SlotFunction<K>>> = empty_cells(alloc, slots)?;
+    let roots = whole_slots(alloc, slots)?;
+    let splitter = BySlots {
+        source,
+        cells: cells.as_slice(),
+        pairing: PhantomData,
+    };
+    let leaves = run(rt, alloc, roots.as_slice(), splitter, workers, gate)?;
+    let all = rows_of_leaves(alloc, slots, &leaves)?;
+    Ok(all)
+}
+
+// A cell for each slot.
+fn empty_cells<K: Pairing>(
+    alloc: Global,
+    slots: usize,
+) -> Result<Vec<OnceBox<SlotFunction<K>>>, NoMemory> {
+    let mut cells = Vec::with_capacity(alloc, slots)?;
+    for _ in 0..slots {
+        cells.push(OnceBox::new(alloc))?;
+    }
+    Ok(cells)
+}
+
+// All headers in each slot.
+fn whole_slots(alloc: Global, slots: usize) -> Result<Vec<Region>, NoMemory>
+    requires { slots < 2 ^ 32 }
+    ensures few { IfOk result (λ roots. length roots.items ≡ slots) }
+    ensures apart { IfOk result (λ roots. AllPairs LieApart roots.items) }
+    ensures whole { IfOk result (λ roots. (k h : ℕ) → k < slots → Any (Holds k h) roots.items) }
+{
+    let cubes = vec![in alloc; Cube::all(); slots]?;
+    let roots = roots_of(alloc, cubes.as_slice())?;
+    Ok(roots)
+}
