@@ -1,0 +1,6 @@
+pub mod ListLemmas
+pub mod SetLemmas
+pub mod KindLemmas
+pub mod LoopLemmas
+pub mod FindingLemmas
+pub mod RowLemmas

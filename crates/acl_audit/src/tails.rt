@@ -1,0 +1,55 @@
+//! What the last entries of a list pass.
+
+ghost use Rattle.std.specs.Prelude.{◌≡◌, ◌<◌, ◌+◌, ℕ, Bool, IfOk, length, if◌then◌else◌};
+ghost use Rattle.hdr_bits.specs.HeaderBits.{header_of};
+ghost use Rattle.net_types.specs.AccessLists.{matches};
+ghost use Rattle.cube_diagram.specs.Functions.{Keeps, count_of};
+ghost use Rattle.acl_audit.specs.Sets.{IsSet, AreTails};
+
+use crate::sets::{add_set, match_set};
+use cube_diagram::Diagrams;
+use net_types::Entry;
+use no_memory::NoMemory;
+use std::alloc::Global;
+
+/// The sets of headers that the last entries pass, where the end denies: first of none, last of all of them.
+pub(crate) fn tail_sets(
+    alloc: Global,
+    diagrams: &mut Diagrams,
+    entries: &[Entry],
+) -> Result<Vec<u32>, NoMemory>
+    ensures sets { IfOk result (λ tails. AreTails diagrams.new entries.now tails.items) }
+    ensures all { IfOk result (λ tails. length tails.items ≡ length entries.now + 1) }
+    ensures kept { Keeps diagrams.old diagrams.new }
+{
+    let mut tails = Vec::new(alloc);
+    let mut tail = diagrams.nothing();
+    tails.push(tail)?;
+    for count in 0..entries.len() {
+        let entry = &entries[entries.len() - 1 - count];
+        tail = put_before(alloc, diagrams, entry, tail)?;
+        tails.push(tail)?;
+    }
+    Ok(tails)
+}
+
+// What passes where the entry stands before a list that passes these headers.
+fn put_before(
+    alloc: Global,
+    diagrams: &mut Diagrams,
+    entry: &Entry,
+    passed: u32,
+) -> Result<u32, NoMemory>
+    requires { passed < count_of diagrams.old }
+    ensures set { IfOk result (λ r. (t : ℕ → Bool) → IsSet diagrams.old t passed
+        → IsSet diagrams.new (λ h. if matches entry.now (header_of h) then entry.now.permit else t h) r) }
+    ensures kept { Keeps diagrams.old diagrams.new }
+{
+    let matched = match_set(alloc, diagrams, entry)?;
+    if entry.permit {
+        let both = add_set(diagrams, matched, passed)?;
+        return Ok(both);
+    }
+    let rest = diagrams.without(passed, matched)?;
+    Ok(rest)
+}

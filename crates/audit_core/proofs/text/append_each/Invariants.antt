@@ -1,0 +1,7 @@
+use Rattle.audit_core.proofs.text.append_each.Given as goal
+use Rattle.std.proofs.Common.{◌≡◌, ◌++◌, take}
+use Rattle.std.specs.List.{flat_map}
+use Rattle.audit_core.specs.AuditText.{finding_text}
+
+abbrev pub invariant-loop-finding : goal.invariant-loop-finding
+invariant-loop-finding l = l.out.items ≡ l.fn.out.items ++ flat_map finding_text (take l.finding-index l.findings)

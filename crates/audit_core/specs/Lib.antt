@@ -1,0 +1,3 @@
+pub mod AuditText
+pub mod Words
+pub mod Audits

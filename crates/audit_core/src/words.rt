@@ -1,0 +1,27 @@
+ghost use Rattle.std.specs.Prelude.{◌≡◌, map, string_bytes};
+ghost use Rattle.std.specs.Option.{option_copied};
+ghost use Rattle.audit_core.specs.Words.{net_of, is_operand};
+
+/// The folder that the words want audited; none where they are outside the usage.
+pub(crate) fn net_of(words: &[String]) -> Option<&str>
+    ensures { option_copied result ≡ net_of (map string_bytes words.now) }
+{
+    if words.len() != 2 {
+        return None;
+    }
+    let net = words[1].as_str();
+    if words[0].as_bytes() == b"audit".as_slice() && is_operand(net.as_bytes()) {
+        return Some(net);
+    }
+    None
+}
+
+// Whether it isn't empty and doesn't begin with `-`.
+fn is_operand(word: &[u8]) -> bool
+    ensures { result ≡ is_operand word.now }
+{
+    match word.first() {
+        Some(byte) => *byte != b'-',
+        None => false,
+    }
+}
