@@ -1,0 +1,5 @@
+pub mod Groups
+pub mod Drafts
+pub mod Values
+pub mod Meaning
+pub mod Changes

@@ -1,0 +1,125 @@
+//! The rows of an ingress as groups.
+ghost use Rattle.std.specs.Prelude.{◌≡◌, [], ◌∷◌, map, IfOk};
+ghost use Rattle.std.specs.List.{AllByRecursion};
+ghost use Rattle.report_groups.specs.Groups.{IsGrouping, cells_of, cell_of, patterns_with};
+ghost use Rattle.report_groups.specs.Drafts.{shown, JoinsBelow, Settles};
+
+use crate::draft::finished;
+use crate::joining::join;
+use crate::types::{Draft, Group, Pattern};
+use hdr_bits::Header;
+use net_types::{NoMemory, Row};
+use std::alloc::Global;
+
+/// The rows of one ingress, joined as far as they can be.
+///
+/// Groups with equal outcomes that are equal in five of the six fields are joined in the sixth, until there are none.
+/// Groups, and the patterns of a field, stand in the order in which the rows have them first.
+///
+/// What the groups stand for are exactly the rows: none is left out, and none is in two groups.
+pub fn group_rows(alloc: Global, rows: &[Row]) -> Result<Vec<Group>, NoMemory>
+    ensures { IfOk result (λ groups. IsGrouping rows.now groups.items) }
+{
+    let drafts = drafts_of(alloc, rows)?;
+    let settled = settle(alloc, drafts)?;
+    let groups = finish(alloc, settled)?;
+    Ok(groups)
+}
+
+fn finish(alloc: Global, drafts: Vec<Draft>) -> Result<Vec<Group>, NoMemory>
+    ensures { IfOk result (λ groups. groups.items ≡ map shown drafts.items) }
+{
+    let mut groups = Vec::with_capacity(alloc, drafts.len())?;
+    for draft in drafts {
+        let group = finished(alloc, draft)?;
+        groups.push(group)?;
+    }
+    Ok(groups)
+}
+
+// A group for each row.
+fn drafts_of(alloc: Global, rows: &[Row]) -> Result<Vec<Draft>, NoMemory>
+    ensures { IfOk result (λ drafts. map (λ d. cells_of (shown d)) drafts.items ≡ map (λ row. cell_of row ∷ []) rows.now) }
+{
+    let mut drafts = Vec::with_capacity(alloc, rows.len())?;
+    for row in rows {
+        drafts.push(draft_of(alloc, row)?)?;
+    }
+    Ok(drafts)
+}
+
+// The group of one row.
+fn draft_of(alloc: Global, row: &Row) -> Result<Draft, NoMemory>
+    ensures { IfOk result (λ d. cells_of (shown d) ≡ cell_of row.now ∷ []) }
+{
+    let (Some(fixed), Some(bits)) = (
+        Header::from_bits(row.cube.fixed),
+        Header::from_bits(row.cube.bits),
+    ) else {
+        unreachable!("a cube has 112 bits");
+    };
+    let fields = single_lists(alloc, &patterns_with(&fixed, &bits))?;
+    Ok(Draft {
+        fields,
+        before: row.old.as_slice().to_vec(alloc)?,
+        after: row.new.as_slice().to_vec(alloc)?,
+    })
+}
+
+fn patterns_with(fixed: &Header, bits: &Header) -> [Pattern; 6]
+    ensures { result ≡ patterns_with fixed.now bits.now }
+{
+    [
+        pattern(fixed.dst, bits.dst),
+        pattern(fixed.src, bits.src),
+        pattern(fixed.proto.into(), bits.proto.into()),
+        pattern(fixed.dport.into(), bits.dport.into()),
+        pattern(fixed.sport.into(), bits.sport.into()),
+        pattern(fixed.flags.into(), bits.flags.into()),
+    ]
+}
+
+fn pattern(fixed: u32, bits: u32) -> Pattern
+    ensures fixed { result.fixed ≡ fixed }
+    ensures bits { result.bits ≡ bits }
+{
+    Pattern { fixed, bits }
+}
+
+// A list of each pattern alone.
+fn single_lists(alloc: Global, patterns: &[Pattern]) -> Result<Vec<Vec<Pattern>>, NoMemory>
+    ensures { IfOk result (λ lists. map (λ list. list.items) lists.items ≡ map (λ p. p ∷ []) patterns.now) }
+{
+    let mut lists = Vec::with_capacity(alloc, patterns.len())?;
+    for pattern in patterns {
+        let mut list = Vec::new(alloc);
+        list.push(*pattern)?;
+        lists.push(list)?;
+    }
+    Ok(lists)
+}
+
+// The groups, joined in one field after the other until none can be joined.
+fn settle(alloc: Global, drafts: Vec<Draft>) -> Result<Vec<Draft>, NoMemory>
+    ensures { IfOk result (λ settled. Settles (map shown drafts.items) (map shown settled.items)) }
+{
+    let mut drafts = drafts;
+    loop {
+        let before = drafts.len();
+        drafts = join_once(alloc, drafts)?;
+        if drafts.len() == before {
+            return Ok(drafts);
+        }
+    }
+}
+
+// The groups, joined in each field once.
+fn join_once(alloc: Global, drafts: Vec<Draft>) -> Result<Vec<Draft>, NoMemory>
+    ensures { IfOk result (λ joined. JoinsBelow 6 (map shown drafts.items) (map shown joined.items)) }
+{
+    let mut joined = drafts;
+    for k in 0..6 {
+        joined = join(alloc, joined, k)?;
+    }
+    Ok(joined)
+}

@@ -1,0 +1,65 @@
+ghost use Rattle.std.specs.Prelude.{◌≡◌, length};
+
+use net_types::{List, Outcome};
+
+/// Some values of a field of headers: those that have these digits at these bits.
+#[derive(Clone, Copy, Debug, PartialEq, Eq, PartialOrd, Ord, Hash)]
+pub struct Pattern {
+    /// The bits that are meant.
+    pub fixed: u32,
+    /// The digits at those bits, and 0 at each other one.
+    pub bits: u32,
+}
+
+/// Rows of one ingress with equal outcomes, whose cubes are all that the patterns of the fields make.
+///
+/// It stands for a row for each choice of one pattern of each field.
+#[derive(Drop)]
+pub struct Group {
+    /// The patterns of the six fields of a header, in its order: dst, src, proto, dport, sport, flags.
+    pub fields: List<List<Pattern>>,
+    /// The outcomes in the old network.
+    pub old: List<Outcome>,
+    /// The outcomes in the new network.
+    pub new: List<Outcome>,
+}
+
+/// A group, with lists that can be taken out.
+#[derive(Drop, PartialEq, Eq, Hash)]
+pub(crate) struct Draft {
+    pub(crate) fields: Vec<Vec<Pattern>>,
+    pub(crate) before: Vec<Outcome>,
+    pub(crate) after: Vec<Outcome>,
+    ghost six: { length fields.items ≡ 6 },
+}
+
+/// Values from `low` to `high`, both included.
+#[derive(Clone, Copy, Debug, PartialEq, Eq)]
+pub struct Span {
+    pub low: u32,
+    pub high: u32,
+}
+
+/// The values of a field as a person reads them.
+#[derive(Drop)]
+pub struct Values {
+    /// Apart, and with a gap between each two.
+    pub spans: List<Span>,
+    /// Patterns that are no span, in their order.
+    pub others: List<Pattern>,
+}
+
+/// What a change does to packets.
+#[derive(Clone, Copy, Debug, PartialEq, Eq)]
+pub enum Change {
+    /// They go round in a loop, and didn't.
+    Loops,
+    /// They are dropped, and weren't.
+    Closes,
+    /// They were dropped or went round, and don't.
+    Opens,
+    /// They end elsewhere.
+    Moves,
+    /// They end where they did, and other fields are replaced.
+    Translated,
+}

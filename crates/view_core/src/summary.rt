@@ -1,0 +1,132 @@
+//! How many rows and groups there are of each kind of change, and of each outcome.
+
+use crate::append::{append, append_number};
+use crate::text::{ORDER, change_name};
+use indexmap::IndexMap;
+use net_types::{Names, NoMemory, Section};
+use report_groups::{Change, Group};
+use report_text::outcome_bytes;
+use std::alloc::Global;
+
+/// Rows and groups, counted.
+#[derive(Clone, Copy)]
+pub(crate) struct Count {
+    rows: u64,
+    groups: u64,
+}
+
+/// Counts of changes and of outcomes.
+#[derive(Drop)]
+pub(crate) struct Counts {
+    // In the order of `ORDER`.
+    changes: [u64; 5],
+    // By `old OUTCOME` and `new OUTCOME`.
+    outcomes: IndexMap<Vec<u8>, Count>,
+}
+
+impl Counts {
+    pub(crate) fn new(alloc: Global) -> Counts {
+        Counts {
+            changes: [0; 5],
+            outcomes: IndexMap::new(alloc),
+        }
+    }
+
+    /// Counts a group.
+    pub(crate) fn add(
+        &mut self,
+        alloc: Global,
+        names: &Names,
+        group: &Group,
+        change: Change,
+    ) -> Result<(), NoMemory> {
+        let rows = row_count(group);
+        for k in 0..5 {
+            if ORDER[k] == change {
+                self.changes[k] = self.changes[k].saturating_add(1);
+            }
+        }
+        for outcome in group.old.as_slice() {
+            let text = outcome_bytes(alloc, names, outcome)?;
+            add_count(&mut self.outcomes, keyed(alloc, b"old ", &text)?, rows)?;
+        }
+        for outcome in group.new.as_slice() {
+            let text = outcome_bytes(alloc, names, outcome)?;
+            add_count(&mut self.outcomes, keyed(alloc, b"new ", &text)?, rows)?;
+        }
+        Ok(())
+    }
+
+    /// Puts the outcomes in the order of their texts.
+    pub(crate) fn sort(&mut self) -> Result<(), NoMemory> {
+        self.outcomes.sort_keys()?;
+        Ok(())
+    }
+}
+
+fn keyed(alloc: Global, version: &[u8], text: &[u8]) -> Result<Vec<u8>, NoMemory> {
+    let mut key = Vec::new(alloc);
+    append(&mut key, version)?;
+    append(&mut key, text)?;
+    Ok(key)
+}
+
+fn add_count(
+    counts: &mut IndexMap<Vec<u8>, Count>,
+    key: Vec<u8>,
+    rows: u64,
+) -> Result<(), NoMemory> {
+    let before = match counts.get(key.as_slice()) {
+        Some(count) => *count,
+        None => Count { rows: 0, groups: 0 },
+    };
+    let after = Count {
+        rows: before.rows.saturating_add(rows),
+        groups: before.groups.saturating_add(1),
+    };
+    counts.insert(key, after)?;
+    Ok(())
+}
+
+// How many rows a group stands for.
+fn row_count(group: &Group) -> u64 {
+    let mut rows: u64 = 1;
+    for patterns in group.fields.as_slice() {
+        rows = rows.saturating_mul(patterns.as_slice().len() as u64);
+    }
+    rows
+}
+
+/// The summary: a line for each kind of change that there is, and one for each outcome in the order of its text.
+pub(crate) fn append_summary(
+    out: &mut Vec<u8>,
+    counts: &Counts,
+    sections: &[Section],
+) -> Result<(), NoMemory> {
+    append(out, b"summary: ingresses ")?;
+    append_number(out, sections.len())?;
+    append(out, b"\n")?;
+    for k in 0..5 {
+        if counts.changes[k] > 0 {
+            append(out, b"  ")?;
+            append(out, change_name(ORDER[k]))?;
+            append(out, b" ")?;
+            append_number(out, counts.changes[k])?;
+            append(out, b"\n")?;
+        }
+    }
+    append_outcomes(out, counts)
+}
+
+fn append_outcomes(out: &mut Vec<u8>, counts: &Counts) -> Result<(), NoMemory> {
+    for (text, count) in &counts.outcomes {
+        append(out, b"  ")?;
+        append(out, text)?;
+        append(out, b": groups ")?;
+        append_number(out, count.groups)?;
+        append(out, b", rows ")?;
+        append_number(out, count.rows)?;
+        append(out, b"\n")?;
+    }
+    Ok(())
+}
