@@ -25,7 +25,7 @@ words = [folder + "/old", folder + "/new", folder + "/links"]
 
 def timed(name, *words):
     start = time.monotonic()
-    run = subprocess.run(["./review", *words], stdout=subprocess.PIPE)
+    run = subprocess.run(["crates/review_cli/out/review_cli", *words], stdout=subprocess.PIPE)
     seconds = time.monotonic() - start
     memory = resource.getrusage(resource.RUSAGE_CHILDREN).ru_maxrss // 1024
     last = run.stdout.decode().splitlines()[-1:] or ["nothing"]

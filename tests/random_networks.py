@@ -1,7 +1,7 @@
 #!/usr/bin/env python3
 """Writes a small random network and a changed one: two folders of configurations, a link table `links`, a changed table
-`newlinks`, a TTL in the file `ttl`, and in the file `packets` some packets of the first network, in each line the place where one
-enters, its header and a TTL.
+`newlinks`, a TTL in the file `ttl`, in the file `packets` some packets of the first network, in each line the place where one
+enters, its header and a TTL, and questions on the first network in the file `questions`.
 
     random_networks.py FOLDER SEED
 """
@@ -251,6 +251,40 @@ class Maker:
     def ttl(self):
         return self.pick(255, 255, 1, 2, 3, 4, 5, self.random.randint(1, 255))
 
+    def questions(self, devices):
+        """Some questions on the network, of all kinds, with filters of all forms."""
+        places = ["%s %s" % (name, section[0].split()[1]) for name, sections in devices.items() for section in sections if section[0].startswith("interface")]
+        return [self.question(places) for _ in range(self.pick(3, 5, 8))]
+
+    def question(self, places):
+        kind = self.pick("reach", "isolate", "noloop")
+        line = "%s %s" % (kind, self.random.choice(places))
+        if kind != "noloop":
+            line += " to " + self.random.choice(places)
+        fields = self.random.sample(["dst", "src", "proto", "dport", "sport", "flags"], self.pick(0, 1, 1, 2, 3))
+        return " ".join([line] + ["%s %s" % (field, self.field_text(field)) for field in fields])
+
+    def field_text(self, field):
+        if self.chance(0.1):
+            return "*"
+        if field in ("dst", "src"):
+            length = self.pick(8, 24, 29, 30, 31)
+            block = "%s/%d" % (dotted(number(self.address()) >> (32 - length) << (32 - length)), length)
+            return self.pick(self.address(), block, block, self.digits(number(self.address()), 32))
+        if field == "proto":
+            return self.pick("6", "17", "1", "50", self.digits(6, 8))
+        if field == "flags":
+            return self.pick("2", "16", self.digits(16, 8))
+        return self.pick("80", "443", "1024", self.digits(80, 16))
+
+    def digits(self, value, width):
+        """The value's digits, of which one is open behind its first one, and mostly some more are."""
+        digits = list(format(value, "0%db" % width))
+        for k in [self.random.randrange(1, width - 1)] + self.random.sample(range(width), self.pick(0, 1, 3)):
+            digits[k] = "*"
+        digits[width - 1] = digits[width - 1].replace("*", "1")
+        return "".join(digits)
+
 
 def ends_of(line):
     words = line.split()
@@ -277,6 +311,7 @@ def main():
     write_lines(folder, "newlinks", maker.changed_links(devices))
     write_lines(folder, "ttl", [str(maker.ttl())])
     write_lines(folder, "packets", [maker.packet(devices) for _ in range(4)])
+    write_lines(folder, "questions", maker.questions(devices))
 
 
 def write_lines(folder, name, lines):

@@ -1,13 +1,15 @@
 #!/usr/bin/env python3
-"""The comparison of two networks, and the trace of a packet, once more from the rules of docs/DEFINITIONS.md alone: a second
-opinion for tests.
+"""The comparison of two networks, the trace of a packet, the answers to questions and the audit of access lists, once more from the
+rules of docs/DEFINITIONS.md alone: a second opinion for tests.
 
     rules.py OLD NEW LINKS [NEWLINKS] [--ttl T]
     rules.py trace NET LINKS DEVICE INTERFACE HEADER [--ttl T]
+    rules.py ask NET LINKS QUESTIONS [--ttl T]
+    rules.py audit NET
 
-It prints what the program must print for `compare` with these words, or for `trace`. It shares no code with the program, takes
-the networks as accepted (it refuses nothing), and is slow: a set of headers is halved at the first bit that a rule asks for,
-until all its headers are treated alike.
+It prints what the program must print for `compare` with these words, for `trace`, `ask` or `audit`. It shares no code with the
+program, takes networks and questions as accepted (it refuses nothing), and is slow: a set of headers is halved at the first bit
+that a rule asks for, until all its headers are treated alike.
 """
 import os
 import sys
@@ -545,6 +547,30 @@ class Network:
             count += 1
         return tuple(sorted(outcomes, key=in_order))
 
+    def next_states(self, state):
+        """The states to which one move leads."""
+        here, key = state
+        return {(move[1], move[2].key()) for move in self.moves(here, Headers(*key)) if move[0] == "go"}
+
+    def loops(self, place, start, ttl):
+        """Whether some walk of at most ttl - 1 moves is twice in one state. A header that is in two states with the same
+        place and the same header is in one: what a rule replaces was fixed before, so equal keys are equal headers."""
+        first_seen, states = {}, {(place, start.key())}
+        for count in range(ttl):
+            states = {state for state in states if state not in first_seen}
+            first_seen.update((state, count) for state in states)
+            states = {after for state in states for after in self.next_states(state)}
+        return any(self.comes_back(state, ttl - 1 - count) for state, count in first_seen.items())
+
+    def comes_back(self, state, moves):
+        """Whether a walk of one to so many moves leads from the state to itself."""
+        seen, states = set(), {state}
+        for _ in range(moves):
+            states = {after for one in states for after in self.next_states(one)} - seen
+            if state in states:
+                return True
+            seen |= states
+        return False
 
     # ---- traces
 
@@ -777,12 +803,148 @@ def trace(folder, links, device, interface, header, ttl=255):
     return "".join(line + "\n" for line in network.trace((device, interface), header_of(header), ttl))
 
 
+# ---- questions
+
+
+def field_masks(text, width):
+    """The bits of a field that its text fixes, and their digits."""
+    ones = 2**width - 1
+    if text == "*":
+        return 0, 0
+    if "*" in text:
+        return int("".join("0" if digit == "*" else "1" for digit in text), 2), int(text.replace("*", "0"), 2)
+    if "/" in text:
+        address, length = text.split("/")
+        return first_bits(int(length)), address_of(address)
+    return ones, address_of(text) if width == 32 else int(text)
+
+
+def filter_of(words):
+    fixed = bits = 0
+    for name, text in zip(words[::2], words[1::2]):
+        shift, width = FIELD[name]
+        field_fixed, field_bits = field_masks(text, width)
+        fixed |= field_fixed << shift
+        bits |= field_bits << shift
+    return Headers(fixed, bits)
+
+
+def breaks(network, kind, place, to, headers, ttl):
+    """Whether these headers break the question."""
+    if kind == "noloop":
+        return network.loops(place, headers, ttl)
+    there = any(outcome[0] >= 2 and outcome[1] == to for outcome in network.label(place, headers, ttl))
+    return there == (kind == "isolate")
+
+
+def least_breaking(network, words, ttl):
+    """The least header of the filter that breaks the question."""
+    kind, place = words[0], (words[1], words[2])
+    to, rest = (None, words[3:]) if kind == "noloop" else ((words[4], words[5]), words[6:])
+    least, waiting = None, [filter_of(rest)]
+    while waiting:
+        headers = waiting.pop()
+        if least is not None and headers.bits >= least:
+            continue
+        try:
+            broken = breaks(network, kind, place, to, headers, ttl)
+        except Divided as divided:
+            waiting += reversed(headers.halves(divided.place))
+            continue
+        if broken:
+            least = headers.bits
+    return least
+
+
+def answers(folder, links, questions, ttl=255):
+    network = Network(load(folder), open(links).read())
+    lines, failed = [], 0
+    for line in open(questions).read().split("\n"):
+        words = line.split()
+        if not words or words[0].startswith("!"):
+            continue
+        least = least_breaking(network, words, ttl)
+        if least is None:
+            lines.append("%d holds" % (len(lines) + 1))
+        else:
+            header = Headers(2**PLACES - 1, least)
+            failed += 1
+            lines.append("%d fails %s" % (len(lines) + 1, header_text(header)))
+    return "\n".join(lines + ["failed %d" % failed]) + "\n"
+
+
+# ---- audits
+
+
+def first_of(entries, headers):
+    """The first of the entries that matches."""
+    return next((entry for entry in entries if entry.matches(headers)), None)
+
+
+def fates(entries, entry):
+    """Disjoint sets of headers with what counts for an entry: whether it matches them, which entry decides them, and whether
+    they pass with the list and with the list without the entry. What the entry doesn't match is left out where others are left."""
+    rest = [other for other in entries if other is not entry]
+    found, waiting = [], [Headers()]
+    while waiting:
+        headers = waiting.pop()
+        try:
+            matches = entry.matches(headers)
+            if not matches and rest:
+                continue
+            decides, other = first_of(entries, headers), first_of(rest, headers)
+            fate = matches, decides, decides is not None and decides.permit, other.permit if other is not None else not rest
+        except Divided as divided:
+            waiting += headers.halves(divided.place)
+            continue
+        found.append((headers.fixed, headers.bits, fate))
+    return found
+
+
+def finding(entries, sequence):
+    """The kind of an entry, or None, and the lines of what earlier ones take of it."""
+    found = fates(entries.values(), entries[sequence])
+    dead = not any(fate[1] is entries[sequence] for _, _, fate in found)
+    redundant = not dead and all(fate[2] == fate[3] for _, _, fate in found)
+    if not dead and not redundant:
+        return None, []
+    lines = []
+    for earlier in entries:
+        if earlier >= sequence:
+            break
+        rows = canonical_rows([(fixed, bits, (True,)) for fixed, bits, fate in found if fate[0] and fate[1] is entries[earlier]])
+        if rows:
+            lines.append("by %d rows %d" % (earlier, len(rows)))
+            lines += [header_text(Headers(fixed, bits)) for fixed, bits, _ in rows]
+    return "dead" if dead else "redundant", lines
+
+
+def audit(folder):
+    lines, count = [], 0
+    for file in sorted(name for name in os.listdir(folder) if name.endswith(".cfg")):
+        for name, (_, entries) in Device(open(os.path.join(folder, file)).read()).lists.items():
+            entries = dict(sorted(entries.items()))
+            kinds, told = [], []
+            for sequence in entries:
+                kind, taken = finding(entries, sequence)
+                if kind is not None:
+                    kinds.append(kind)
+                    told += ["entry %d %s" % (sequence, kind)] + taken
+            lines += ["list %s %s dead %d redundant %d" % (file, name, kinds.count("dead"), kinds.count("redundant"))] + told
+            count += len(kinds)
+    return "\n".join(lines + ["findings %d" % count]) + "\n"
+
+
 def main():
     words, ttl = sys.argv[1:], 255
     if len(words) >= 2 and words[-2] == "--ttl":
         words, ttl = words[:-2], int(words[-1])
-    if words[:1] == ["trace"]:
+    if words[:1] == ["audit"]:
+        sys.stdout.write(audit(*words[1:]))
+    elif words[:1] == ["trace"]:
         sys.stdout.write(trace(*words[1:], ttl=ttl))
+    elif words[:1] == ["ask"]:
+        sys.stdout.write(answers(*words[1:], ttl=ttl))
     else:
         sys.stdout.write(report(*words, ttl=ttl))
 
