@@ -13,7 +13,7 @@ ghost use Rattle.cube_diagram.specs.Exact.{DividesForCause};
 ghost use Rattle.cube_diagram.specs.Functions.{Keeps, count_of, value_at};
 ghost use Rattle.cube_diagram.specs.Reach.{GivesOnly, OfComparison};
 
-use crate::combine::{Tables, combine, make_room, new_tables};
+use crate::combine::{Tables, combine, make_room, new_tables, twin_of};
 use crate::compare::{Comparison, compare};
 use crate::descent::{divide, lookup};
 use crate::entry::{entry, first_match, first_of};
@@ -54,6 +54,14 @@ impl Diagrams {
         ensures { IfOk result (λ d. count_of d ≡ 2) }
     {
         let tables = new_tables(alloc)?;
+        Ok(Diagrams { tables })
+    }
+
+    /// A table of the same functions by the same numbers, with nothing remembered of how they were made. It grows apart.
+    pub fn twin(&self) -> Result<Diagrams, NoMemory>
+        ensures { IfOk result (λ d. d ≡ self.now) }
+    {
+        let tables = twin_of(&self.tables)?;
         Ok(Diagrams { tables })
     }
 
