@@ -12,3 +12,4 @@ pub mod EndLaws
 pub mod LabelLaws
 pub mod HopOrder
 pub mod Checks
+pub mod QuestionLaws

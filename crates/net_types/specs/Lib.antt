@@ -6,3 +6,4 @@ pub mod Moves
 pub mod Order
 pub mod Walks
 pub mod Report
+pub mod Questions

@@ -11,12 +11,15 @@ ghost use Rattle.net_types.specs.declared.network.Hop.{Hop};
 ghost use Rattle.net_types.specs.declared.network.Place.{Place};
 ghost use Rattle.net_types.specs.declared.network.Rib.{Rib};
 ghost use Rattle.net_types.specs.declared.network.State.{State};
+ghost use Rattle.net_types.specs.declared.question.Answer.{Answer};
+ghost use Rattle.net_types.specs.declared.question.Question.{Question};
 ghost use Rattle.net_types.specs.Routes.{IsValid, valid, IsInstalled, installed, IsChoice, hops};
 ghost use Rattle.net_types.specs.World.{World};
 ghost use Rattle.net_types.specs.Moves.{moves};
 ghost use Rattle.net_types.specs.Order.{in_order, outcome_cmp, IsLabel};
 ghost use Rattle.net_types.specs.Walks.{IsWalk, states_after, End, IsEnd, ends, end_of, outcome_of, state_at, SameEnds, HasEnd, label};
 ghost use Rattle.net_types.specs.Report.{same_label, affected};
+ghost use Rattle.net_types.specs.Questions.{IsAnswer, Reaches, Loops, HasOutcomeAt};
 
 /// The computed valid routes are the least set that the two rules of a valid route make.
 pub fn valid_is_least()
@@ -67,4 +70,20 @@ pub fn affected_is_difference()
 /// Without segments and under a TTL of at least 1 a packet ends at the device where it enters, by that device's moves.
 pub fn alone_is_one_device()
     ensures { (w : World) → w.links.segments ≡ [] → (t : ℕ) (p : Place) (h : Header) → 1 ≤ t → label w t p h ≡ in_order outcome_cmp (map (outcome_of h) (filter_map (end_of (t == 1)) (moves w p h))) }
+{}
+
+/// A question has one answer.
+pub fn answers_are_unique()
+    ensures { (w : World) (t : ℕ) (q : Question) (a b : Answer) → IsAnswer w t q a → IsAnswer w t q b → a ≡ b }
+{}
+
+/// A header reaches a place exactly where an outcome of its label is at that place.
+pub fn reaches_by_label()
+    ensures { (w : World) (t : ℕ) (p q : Place) (h : Header) → Reaches w t p q h ↔ HasOutcomeAt q (label w t p h) }
+{}
+
+/// A header that loops has a walk of each number of moves; and what loops under a TTL does so under every greater one.
+pub fn loops_last()
+    ensures walks { (w : World) (t : ℕ) (p : Place) (h : Header) → Loops w t p h → (n : ℕ) → (u : State) × IsWalk w n (state_at p h) u }
+    ensures longer { (w : World) (t s : ℕ) (p : Place) (h : Header) → t ≤ s → Loops w t p h → Loops w s p h }
 {}

@@ -2,7 +2,8 @@
 //!
 //! The rules are definitions of `specs/`: access lists in `AccessLists`, static routes in `Routes`, static address
 //! translation in `Translation`, a network and its links in `World`, what a device does with a packet in `Moves`, the walks
-//! of a packet and its label in `Walks`, the order of outcomes in `Order`, and the report in `Report`.
+//! of a packet and its label in `Walks`, the order of outcomes in `Order`, the report in `Report`,
+//! and questions in `Questions`.
 #![tactic(auto)]
 
 mod config;
@@ -11,6 +12,7 @@ mod label;
 pub mod laws;
 mod list;
 mod network;
+mod question;
 mod text;
 mod word;
 
@@ -25,5 +27,6 @@ pub use network::{
     Hop, Links, Move, Names, NetDevice, Network, Place, Rib, Row, Section, Segment, State, Verdict,
 };
 pub use no_memory::NoMemory;
+pub use question::{Answer, Question, QuestionKind};
 pub use text::Text;
 pub use word::Word;
