@@ -1,6 +1,7 @@
 pub mod Limits
 pub mod Faults
 pub mod Files
+pub mod Pieces
 pub mod Names
 pub mod ReadFail
 pub mod Sink

@@ -8,6 +8,7 @@ ghost use Rattle.net_io.specs.Files.{content, has_folder, IsListing, IsPiece, Is
 ghost use Rattle.net_io.specs.Names.{after_folder, after_slash, plain_name, name_in};
 ghost use Rattle.net_io.specs.Store.{empty_store, with_file, with_folder, is_due, called};
 ghost use Rattle.net_io.specs.MemFiles.{entries, paths};
+ghost use Rattle.net_io.specs.Pieces.{at_most};
 ghost use Rattle.net_io.specs.declared.reading.FileFail.TheVariants as file;
 
 use crate::{FileFail, Files};
@@ -32,11 +33,12 @@ pub struct MemFiles {
     folders: Vec<String>,
     calls: u64,
     fails_at: Option<u64>,
+    most: Option<usize>,
     faults: u64,
 }
 
 impl Model for MemFiles {
-    ghost use Rattle.std.specs.Prelude.{map, string_bytes};
+    ghost use Rattle.std.specs.Prelude.{◌≤◌, IfSome, map, string_bytes};
     ghost use Rattle.std.specs.List.{IsDistinct};
     ghost use Rattle.std.specs.Str.{bytes_eq};
     ghost use Rattle.net_io.specs.Store.{Store};
@@ -49,11 +51,12 @@ impl Model for MemFiles {
       told = record { files = entries m.files.items; folders = map string_bytes m.folders.items };
       calls = m.calls;
       fails_at = m.fails_at;
+      most = m.most;
       faults = m.faults;
     } };
 
-    // No path is there twice.
-    ghost invariant = { λ m. IsDistinct bytes_eq (paths m.files.items) };
+    // No path is there twice, and a read gives at least one byte.
+    ghost invariant = { λ m. IsDistinct bytes_eq (paths m.files.items) × IfSome m.most (λ most. 1 ≤ most) };
 }
 
 impl MemFiles {
@@ -68,6 +71,7 @@ impl MemFiles {
             folders: Vec::new(alloc),
             calls: 0,
             fails_at: None,
+            most: None,
             faults: 0,
         })
     }
@@ -98,6 +102,14 @@ impl MemFiles {
         ensures { self.new ≡ record self.old { fails_at = Some call } }
     {
         self.fails_at = Some(call);
+    }
+
+    /// Lets each read from now on give at most so many bytes. It takes the place of an earlier number.
+    pub fn at_most(&mut self, bytes: usize)
+        requires { 1 ≤ bytes }
+        ensures { self.new ≡ record self.old { most = Some bytes } }
+    {
+        self.most = Some(bytes);
     }
 
     // Counts a call of `list` or `read`, and says whether it is the one that fails.
@@ -139,7 +151,7 @@ impl Files for MemFiles {
     fn read(&mut self, path: &str, at: u64, room: &mut [u8]) -> Result<usize, FileFail>
         ensures counted { self.new ≡ called self.old }
         ensures later { self.old.faults ≤ self.new.faults }
-        ensures bound { IfOk result (λ n. n ≤ length room.old) }
+        ensures bound { IfOk result (λ n. n ≤ at_most self.old.most (length room.old)) }
         ensures piece { IfOk result (λ n. IfSome (content self.old.told path.now) (λ bytes. IsPiece bytes at room.new n)) }
         ensures more { IfOk result (λ n. IfSome (content self.old.told path.now) (λ bytes. at < length bytes → 0 < length room.old → 0 < n)) }
         ensures absent { IsAbsentUnless (IsSome (content self.old.told path.now)) result }
@@ -152,7 +164,8 @@ impl Files for MemFiles {
         let Some(bytes) = bytes_at(&self.files, path) else {
             return Err(FileFail::Absent);
         };
-        Ok(copy_piece(bytes, at, room))
+        let most = within_most(self.most, room.len());
+        Ok(copy_piece(bytes, at, &mut room[..most]))
     }
 }
 
@@ -162,6 +175,16 @@ fn is_due(fails_at: Option<u64>, calls: u64) -> bool
     match fails_at {
         Some(call) => call == calls,
         None => false,
+    }
+}
+
+// So many bytes, or as many as one read gives.
+pub(crate) fn within_most(most: Option<usize>, count: usize) -> usize
+    ensures { result ≡ at_most most count }
+{
+    match most {
+        Some(most) => most.min(count),
+        None => count,
     }
 }
 
