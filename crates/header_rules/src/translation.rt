@@ -91,43 +91,43 @@ fn with_destination_of(h: &Header, rule: Option<&NatRule>) -> Header
     }
 }
 
-// The first port rule that translates the header's destination.
-fn port_rule_to<'a>(rules: &'a [NatRule], h: &Header) -> Option<&'a NatRule>
+/// The first port rule that translates the header's destination.
+pub fn port_rule_to<'a>(rules: &'a [NatRule], h: &Header) -> Option<&'a NatRule>
     ensures { option_copied result ≡ find (port_fits_dst h.now) rules.now }
 {
     rules.iter().find(|r| port_fits_dst(h, r))
 }
 
-// The first plain rule that does.
-fn plain_rule_to<'a>(rules: &'a [NatRule], h: &Header) -> Option<&'a NatRule>
+/// The first plain rule that does.
+pub fn plain_rule_to<'a>(rules: &'a [NatRule], h: &Header) -> Option<&'a NatRule>
     ensures { option_copied result ≡ find (plain_fits_dst h.now) rules.now }
 {
     rules.iter().find(|r| plain_fits_dst(h, r))
 }
 
-// The first port rule that translates the header's source.
-fn port_rule_from<'a>(rules: &'a [NatRule], h: &Header) -> Option<&'a NatRule>
+/// The first port rule that translates the header's source.
+pub fn port_rule_from<'a>(rules: &'a [NatRule], h: &Header) -> Option<&'a NatRule>
     ensures { option_copied result ≡ find (port_fits_src h.now) rules.now }
 {
     rules.iter().find(|r| port_fits_src(h, r))
 }
 
-// The first plain rule that does.
-fn plain_rule_from<'a>(rules: &'a [NatRule], h: &Header) -> Option<&'a NatRule>
+/// The first plain rule that does.
+pub fn plain_rule_from<'a>(rules: &'a [NatRule], h: &Header) -> Option<&'a NatRule>
     ensures { option_copied result ≡ find (plain_fits_src h.now) rules.now }
 {
     rules.iter().find(|r| plain_fits_src(h, r))
 }
 
-// The first outer rule that translates the header's source.
-fn outer_rule_from<'a>(rules: &'a [NatRule], h: &Header) -> Option<&'a NatRule>
+/// The first outer rule that translates the header's source.
+pub fn outer_rule_from<'a>(rules: &'a [NatRule], h: &Header) -> Option<&'a NatRule>
     ensures { option_copied result ≡ find (outer_fits_src h.now) rules.now }
 {
     rules.iter().find(|r| outer_fits_src(h, r))
 }
 
-// The first outer rule that translates the header's destination.
-fn outer_rule_to<'a>(rules: &'a [NatRule], h: &Header) -> Option<&'a NatRule>
+/// The first outer rule that translates the header's destination.
+pub fn outer_rule_to<'a>(rules: &'a [NatRule], h: &Header) -> Option<&'a NatRule>
     ensures { option_copied result ≡ find (outer_fits_dst h.now) rules.now }
 {
     rules.iter().find(|r| outer_fits_dst(h, r))

@@ -1,3 +1,2 @@
 pub mod HopLemmas
 pub mod Ends
-pub mod OutcomeLemmas

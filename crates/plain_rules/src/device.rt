@@ -1,8 +1,7 @@
 ghost use Rattle.std.specs.Prelude.{◌≡◌, ◌&&◌, ◌==◌, [], ◌∷◌, IfOk, map, find, position, option_map};
 ghost use Rattle.std.specs.Option.{option_copied};
-ghost use Rattle.std.specs.List.{list_any};
-ghost use Rattle.net_types.specs.Moves.{passes_list, is_reserved};
-ghost use Rattle.net_types.specs.Moves.{is_broadcast, has_broadcast, is_dropped, owns, owner};
+ghost use Rattle.net_types.specs.Moves.{passes_list};
+ghost use Rattle.net_types.specs.Moves.{is_dropped, owns, owner};
 ghost use Rattle.net_types.specs.Moves.{send_p2p, send_lan, send, going_out, coming_in, lets_in};
 ghost use Rattle.net_types.specs.Moves.{leave_with, leave, leave_if_any, move_by};
 ghost use Rattle.net_types.specs.Moves.{local_or_forward, moves_in, moves_at, moves};
@@ -13,8 +12,8 @@ use crate::lookups::hops;
 use crate::segments::{answers, is_other, is_silent, segment_of};
 use crate::static_routes::build;
 use hdr_bits::Header;
-use header_rules::{first_match, from_inside, from_outside, passes};
-use net_types::{Config, Hop, Interface, Move, NoMemory, Place, Segment, Subnet, Text};
+use header_rules::{first_match, from_inside, from_outside, is_dropped, passes};
+use net_types::{Config, Hop, Interface, Move, NoMemory, Place, Segment, Text};
 use net_view::{
     SeatRef, WorldRef, has_live_address, is_enabled, is_inside, is_outside, list_named, seat_at,
     seat_in, seat_named,
@@ -159,45 +158,6 @@ fn owns(address: u32, interface: &Interface) -> bool
     ensures { result ≡ owns address interface.now }
 {
     has_live_address(interface, address)
-}
-
-fn is_broadcast(address: u32, subnet: &Subnet) -> bool
-    ensures { result ≡ is_broadcast address subnet.now }
-{
-    let size = 1u64 << (32 - u32::from(subnet.length));
-    let own = u64::from(subnet.address);
-    subnet.length <= 30 && u64::from(address) + 1 == own - own % size + size
-}
-
-fn any_broadcast(address: u32, subnets: &[Subnet]) -> bool
-    ensures { result ≡ list_any (is_broadcast address) subnets.now }
-{
-    subnets.iter().any(|s| is_broadcast(address, s))
-}
-
-fn has_broadcast(address: u32, interface: &Interface) -> bool
-    ensures { result ≡ has_broadcast address interface.now }
-{
-    if interface.shut {
-        return false;
-    }
-    match &interface.primary {
-        Some(s) => is_broadcast(address, s)
-            || any_broadcast(address, interface.secondary.as_slice()),
-        None => any_broadcast(address, interface.secondary.as_slice()),
-    }
-}
-
-fn any_has_broadcast(address: u32, interfaces: &[Interface]) -> bool
-    ensures { result ≡ list_any (has_broadcast address) interfaces.now }
-{
-    interfaces.iter().any(|i| has_broadcast(address, i))
-}
-
-fn is_dropped(config: &Config, address: u32) -> bool
-    ensures { result ≡ is_dropped config.now address }
-{
-    address >= 0xe000_0000 || any_has_broadcast(address, config.interfaces.as_slice())
 }
 
 fn moves_by(

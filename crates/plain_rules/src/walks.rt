@@ -1,14 +1,13 @@
-ghost use Rattle.std.specs.Prelude.{◌≡◌, ◌≢◌, ◌≤◌, ◌++◌, [], IfOk, OnOk, map, flat_map, filter_map};
-ghost use Rattle.std.specs.Prelude.{option_map};
-ghost use Rattle.net_types.specs.Walks.{next_state, next_states, states_after, end_of, end_by};
-ghost use Rattle.net_types.specs.Walks.{last_end_by, changed, outcome_of, ends_at, ends_after};
-ghost use Rattle.net_types.specs.Walks.{ends, exit, label};
+ghost use Rattle.std.specs.Prelude.{◌≡◌, ◌≢◌, ◌≤◌, ◌++◌, [], IfOk, OnOk, map, flat_map};
+ghost use Rattle.net_types.specs.Walks.{next_state, next_states, states_after};
+ghost use Rattle.net_types.specs.Walks.{outcome_of, ends_at, ends_after};
+ghost use Rattle.net_types.specs.Walks.{ends, label};
 ghost use Rattle.hdr_bits.specs.declared.header.Header.{Header};
 ghost use Rattle.net_view.specs.Borrowed.{world_of};
-ghost use Rattle.plain_rules.specs.Outcomes.{outcome_by};
 
 use crate::device::moves;
 use hdr_bits::Header;
+use header_rules::add_outcomes;
 use net_types::{Label, Move, NoMemory, Outcome, Place, State};
 use net_view::WorldRef;
 use std::alloc::Global;
@@ -115,7 +114,7 @@ fn add_ends(
     Ok(())
 }
 
-#[tactic(auto, using(crate::proofs::OutcomeLemmas::outcomes_of_ends))]
+#[tactic(auto, using(header_rules::proofs::OutcomeLemmas::outcomes_of_ends))]
 fn add_ends_at(
     alloc: Global,
     w: WorldRef,
@@ -128,86 +127,4 @@ fn add_ends_at(
 {
     let moves = moves(alloc, w, state.place, &state.header)?;
     add_outcomes(last, start, &moves, found)
-}
-
-fn add_outcomes(
-    last: bool,
-    start: &Header,
-    moves: &[Move],
-    found: &mut Vec<Outcome>,
-) -> Result<(), NoMemory>
-    ensures { OnOk result (found.new.items ≡ found.old.items ++ filter_map (outcome_by start.now last) moves.now) }
-{
-    for one in moves {
-        if let Some(outcome) = outcome_by(last, start, one) {
-            found.push(outcome)?;
-        }
-    }
-    Ok(())
-}
-
-fn outcome_by(last: bool, start: &Header, one: &Move) -> Option<Outcome>
-    ensures { result ≡ outcome_by start.now last one.now }
-{
-    if last {
-        return last_outcome_by(one);
-    }
-    early_outcome_by(start, one)
-}
-
-fn last_outcome_by(one: &Move) -> Option<Outcome>
-    ensures { (start : Header) → result ≡ option_map (outcome_of start) (last_end_by one.now) }
-{
-    match one {
-        Move::Drop => Some(Outcome::Dropped),
-        Move::Local { place } => Some(Outcome::Local { place: *place }),
-        Move::Lost => Some(Outcome::Expired),
-        Move::Exit {
-            place: _,
-            header: _,
-        } => Some(Outcome::Expired),
-        Move::Go {
-            place: _,
-            header: _,
-        } => Some(Outcome::Expired),
-    }
-}
-
-fn early_outcome_by(start: &Header, one: &Move) -> Option<Outcome>
-    ensures { result ≡ option_map (outcome_of start.now) (end_by one.now) }
-{
-    match one {
-        Move::Drop => Some(Outcome::Dropped),
-        Move::Local { place } => Some(Outcome::Local { place: *place }),
-        Move::Lost => Some(Outcome::Dropped),
-        Move::Exit { place, header } => Some(exit_of(start, *place, header)),
-        Move::Go {
-            place: _,
-            header: _,
-        } => None,
-    }
-}
-
-fn exit_of(start: &Header, place: Place, h: &Header) -> Outcome
-    ensures { result ≡ outcome_of start.now (exit place h.now) }
-{
-    Outcome::Exit {
-        place,
-        src: changed(start.src, h.src),
-        dst: changed(start.dst, h.dst),
-        sport: changed_port(start.sport, h.sport),
-        dport: changed_port(start.dport, h.dport),
-    }
-}
-
-fn changed(before: u32, after: u32) -> Option<u32>
-    ensures { result ≡ changed before after }
-{
-    if before == after { None } else { Some(after) }
-}
-
-fn changed_port(before: u16, after: u16) -> Option<u16>
-    ensures { result ≡ changed before after }
-{
-    if before == after { None } else { Some(after) }
 }

@@ -25,7 +25,9 @@ use Rattle.net_types.proofs.NeverEmpty.{some_ends}
 use Rattle.net_types.proofs.Ordered.{is_in_order, in_order_sorted, Contains_from_has, has_from_Contains, in_order_has}
 use Rattle.net_types.proofs.Outcomes.{total, exact}
 use Rattle.walk_trace.specs.Numbered.{choices, ordered_moves, ordered_moves_at, ordered_moves_in, ordered_moves_by, next_in_order, reached, reached_below, firsts, numbered}
-use Rattle.walk_trace.specs.Outcomes.{outcome_by, outcomes_at, SameSet}
+use Rattle.header_rules.specs.Outcomes.{outcome_by}
+use Rattle.header_rules.proofs.OutcomeLemmas.{outcomes_of_ends}
+use Rattle.walk_trace.specs.Outcomes.{outcomes_at, SameSet}
 use Rattle.walk_trace.proofs.Adding.{gained, only}
 use Rattle.walk_trace.proofs.Breadth.{reached_of, number_for}
 use Rattle.walk_trace.proofs.SetLemmas.{same_refl, same_trans, same_append, same_map, same_filter_map, same_flat_map, same_some, map_flat}
@@ -69,15 +71,6 @@ module _ (w : World) where
   reached_same zero s = same_refl (s ∷ [])
   reached_same (suc n) s = same_flat_map (next_in_order w) (next_states w) (reached w n s) (states_after w n s) (reached_same n s) next_same
   -- ---- outcomes
-
-map_cons_option : {A B : Type 0} (f : A → B) (o : Option A) (xs : List A) → map f (cons_option o xs) ≡ cons_option (option_map f o) (map f xs)
-map_cons_option f None xs = refl
-map_cons_option f (Some x) xs = refl
-
-outcomes_of_ends : (g : Header) (last : Bool) (ms : List Move) → map (outcome_of g) (filter_map (end_of last) ms) ≡ filter_map (outcome_by g last) ms
-outcomes_of_ends g last [] = refl
-outcomes_of_ends g last (m ∷ ms) =
-    map_cons_option (outcome_of g) (end_of last m) (filter_map (end_of last) ms) ∙ ap (cons_option (outcome_by g last m)) (outcomes_of_ends g last ms)
 
 module _ (w : World) (g : Header) where
   outcomes_same : (last : Bool) (u : State) → SameSet (outcomes_at w last g u) (map (outcome_of g) (ends_at w last u))

@@ -1,16 +1,12 @@
 -- The outcomes of the moves of states, as they are gathered for a label.
-use Rattle.std.specs.Prelude.{◌↔◌, ◌<◌, ℕ, Bool, List, Option, Contains, filter_map, option_map}
+use Rattle.std.specs.Prelude.{◌↔◌, ◌<◌, ℕ, Bool, List, Contains, filter_map}
 use Rattle.hdr_bits.specs.declared.header.Header.{Header}
 use Rattle.net_types.specs.declared.label.Outcome.{Outcome}
-use Rattle.net_types.specs.declared.network.Move.{Move}
 use Rattle.net_types.specs.declared.network.State.{State}
 use Rattle.net_types.specs.World.{World}
-use Rattle.net_types.specs.Walks.{IsWalk, end_of, outcome_of}
+use Rattle.net_types.specs.Walks.{IsWalk}
+use Rattle.header_rules.specs.Outcomes.{outcome_by}
 use Rattle.walk_trace.specs.Numbered.{ordered_moves}
-
--- the outcome of the end by this move, if it ends the walk
-abbrev pub outcome_by : Header → Bool → Move → Option Outcome
-outcome_by g last m = option_map (outcome_of g) (end_of last m)
 
 -- the outcomes of the ends by the moves of a state
 abbrev pub outcomes_at : World → Bool → Header → State → List Outcome

@@ -1,8 +1,7 @@
 //! What a device does with a packet: its moves, one for each choice in order.
 
 ghost use Rattle.std.specs.Prelude.{◌≡◌, [], ◌∷◌, IfOk, map, position, option_map};
-ghost use Rattle.std.specs.List.{list_any};
-ghost use Rattle.net_types.specs.Moves.{is_broadcast, has_broadcast, is_dropped, owns, owner, lets_in};
+ghost use Rattle.net_types.specs.Moves.{is_dropped, owns, owner, lets_in};
 ghost use Rattle.net_types.specs.Moves.{leave_with, leave, leave_if_any, move_by};
 ghost use Rattle.net_view.specs.Borrowed.{seat_of};
 ghost use Rattle.walk_trace.specs.Traced.{said};
@@ -11,8 +10,8 @@ ghost use Rattle.walk_trace.specs.Numbered.{choices, ordered_moves_by, ordered_m
 use crate::site::Site;
 use crate::translation::{coming_in, going_out};
 use hdr_bits::Header;
-use header_rules::{first_match, passes};
-use net_types::{Config, Hop, Interface, Move, NoMemory, State, Subnet, Text, Verdict};
+use header_rules::{first_match, is_dropped, passes};
+use net_types::{Config, Hop, Interface, Move, NoMemory, State, Text, Verdict};
 use net_view::{SeatRef, has_live_address, is_enabled, list_named, seat_in, seat_named};
 use std::alloc::Global;
 
@@ -21,46 +20,6 @@ pub(crate) fn said(config: &Config, name: &Option<Text>, h: &Header) -> Verdict
     ensures { result ≡ said config.now name.now h.now }
 {
     first_match(list_named(config, name), h)
-}
-
-/// Whether the destination is dropped at once.
-pub(crate) fn is_dropped(config: &Config, address: u32) -> bool
-    ensures { result ≡ is_dropped config.now address }
-{
-    address >= 0xe000_0000 || any_has_broadcast(config.interfaces.as_slice(), address)
-}
-
-fn any_has_broadcast(interfaces: &[Interface], address: u32) -> bool
-    ensures { result ≡ list_any (has_broadcast address) interfaces.now }
-{
-    interfaces.iter().any(|i| has_broadcast(address, i))
-}
-
-fn has_broadcast(address: u32, interface: &Interface) -> bool
-    ensures { result ≡ has_broadcast address interface.now }
-{
-    if interface.shut {
-        return false;
-    }
-    match &interface.primary {
-        Some(s) => is_broadcast(address, s)
-            || any_broadcast(address, interface.secondary.as_slice()),
-        None => any_broadcast(address, interface.secondary.as_slice()),
-    }
-}
-
-fn any_broadcast(address: u32, subnets: &[Subnet]) -> bool
-    ensures { result ≡ list_any (is_broadcast address) subnets.now }
-{
-    subnets.iter().any(|s| is_broadcast(address, s))
-}
-
-fn is_broadcast(address: u32, subnet: &Subnet) -> bool
-    ensures { result ≡ is_broadcast address subnet.now }
-{
-    let size = 1u64 << (32 - u32::from(subnet.length));
-    let own = u64::from(subnet.address);
-    subnet.length <= 30 && u64::from(address) + 1 == own - own % size + size
 }
 
 /// The interface of the device that has the address.

@@ -1,17 +1,17 @@
 //! The label of a header: the outcomes of all its walks.
 
-ghost use Rattle.std.specs.Prelude.{◌≡◌, ◌≤◌, ◌++◌, true, false, IfOk, OnOk, map, flat_map, filter_map, option_map};
-ghost use Rattle.hdr_bits.specs.declared.header.Header.{Header};
-ghost use Rattle.net_types.specs.Walks.{end_by, last_end_by, changed, outcome_of, exit, ends, label};
+ghost use Rattle.std.specs.Prelude.{◌≡◌, ◌≤◌, ◌++◌, true, false, IfOk, OnOk, map, flat_map};
+ghost use Rattle.net_types.specs.Walks.{outcome_of, ends, label};
 ghost use Rattle.walk_trace.specs.Numbered.{next_in_order, firsts, reached, numbered};
-ghost use Rattle.walk_trace.specs.Outcomes.{outcome_by, outcomes_at, SameSet};
+ghost use Rattle.walk_trace.specs.Outcomes.{outcomes_at, SameSet};
 
 use crate::device::ordered_moves;
 use crate::numbers::{add_next, numbered};
 use crate::site::Site;
 use crate::states::States;
 use hdr_bits::Header;
-use net_types::{Label, Move, NoMemory, Outcome, Place, State};
+use header_rules::add_outcomes;
+use net_types::{Label, NoMemory, Outcome, Place, State};
 use std::alloc::Global;
 
 /// The label of a header that enters at a place with this TTL.
@@ -113,87 +113,4 @@ fn add_outcomes_of(
 {
     let moves = ordered_moves(alloc, site, state)?;
     add_outcomes(last, first, &moves, found)
-}
-
-fn add_outcomes(
-    last: bool,
-    first: &Header,
-    moves: &[Move],
-    found: &mut Vec<Outcome>,
-) -> Result<(), NoMemory>
-    ensures { OnOk result (found.new.items ≡ found.old.items ++ filter_map (outcome_by first.now last) moves.now) }
-{
-    for one in moves {
-        if let Some(outcome) = outcome_by(last, first, one) {
-            found.push(outcome)?;
-        }
-    }
-    Ok(())
-}
-
-fn outcome_by(last: bool, first: &Header, one: &Move) -> Option<Outcome>
-    ensures { result ≡ outcome_by first.now last one.now }
-{
-    if last {
-        return last_outcome_by(one);
-    }
-    early_outcome_by(first, one)
-}
-
-fn last_outcome_by(one: &Move) -> Option<Outcome>
-    ensures { (first : Header) → result ≡ option_map (outcome_of first) (last_end_by one.now) }
-{
-    match one {
-        Move::Drop => Some(Outcome::Dropped),
-        Move::Local { place } => Some(Outcome::Local { place: *place }),
-        Move::Lost => Some(Outcome::Expired),
-        Move::Exit {
-            place: _,
-            header: _,
-        } => Some(Outcome::Expired),
-        Move::Go {
-            place: _,
-            header: _,
-        } => Some(Outcome::Expired),
-    }
-}
-
-fn early_outcome_by(first: &Header, one: &Move) -> Option<Outcome>
-    ensures { result ≡ option_map (outcome_of first.now) (end_by one.now) }
-{
-    match one {
-        Move::Drop => Some(Outcome::Dropped),
-        Move::Local { place } => Some(Outcome::Local { place: *place }),
-        Move::Lost => Some(Outcome::Dropped),
-        Move::Exit { place, header } => Some(exit_of(first, *place, header)),
-        Move::Go {
-            place: _,
-            header: _,
-        } => None,
-    }
-}
-
-/// The outcome of a packet that left the network: its last header relative to the first.
-pub(crate) fn exit_of(first: &Header, place: Place, h: &Header) -> Outcome
-    ensures { result ≡ outcome_of first.now (exit place h.now) }
-{
-    Outcome::Exit {
-        place,
-        src: changed(first.src, h.src),
-        dst: changed(first.dst, h.dst),
-        sport: changed_port(first.sport, h.sport),
-        dport: changed_port(first.dport, h.dport),
-    }
-}
-
-fn changed(before: u32, after: u32) -> Option<u32>
-    ensures { result ≡ changed before after }
-{
-    if before == after { None } else { Some(after) }
-}
-
-fn changed_port(before: u16, after: u16) -> Option<u16>
-    ensures { result ≡ changed before after }
-{
-    if before == after { None } else { Some(after) }
 }

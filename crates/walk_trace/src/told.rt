@@ -7,15 +7,14 @@ ghost use Rattle.walk_trace.specs.Numbered.{number_of};
 ghost use Rattle.walk_trace.specs.Traced.{tried, fate_by, fate_after, choice_with, choice_after, choice_of, choice_if_any, choice_by};
 ghost use Rattle.walk_trace.specs.Traced.{end_by, end_in, closed, turned_away, taken_in, judged, open_state, state_if_any, state_told};
 
-use crate::device::{choices, is_dropped, owner, said};
-use crate::outcomes::exit_of;
+use crate::device::{choices, owner, said};
 use crate::site::Site;
 use crate::states::States;
 use crate::translation::{coming_in, going_out, written_coming_in, written_going_out};
 use crate::types::{TraceChoice, TraceEnd, TraceFate, TraceState};
 use cube_alg::Stamp;
 use hdr_bits::Header;
-use header_rules::passes;
+use header_rules::{exit_of, is_dropped, passes};
 use net_types::{Duplicate, Hop, List, Move, NoMemory, Place, State, Text, Verdict};
 use net_view::{SeatRef, is_enabled, seat_named};
 use std::alloc::Global;

@@ -1,17 +1,17 @@
 //! What translation writes into a packet. A rule that matched is told also where it writes what was there.
 
-ghost use Rattle.std.specs.Prelude.{◌≡◌, find};
-ghost use Rattle.std.specs.Option.{option_copied};
-ghost use Rattle.net_types.specs.Translation.{is_plain, is_port_rule, is_outer, port_fits_dst, plain_fits_dst, port_fits_src, plain_fits_src};
-ghost use Rattle.net_types.specs.Translation.{outer_fits_dst, outer_fits_src};
+ghost use Rattle.std.specs.Prelude.{◌≡◌};
 ghost use Rattle.net_types.specs.Moves.{coming_in, going_out};
 ghost use Rattle.net_view.specs.Borrowed.{seat_of};
 ghost use Rattle.walk_trace.specs.Traced.{written_from_outside, written_from_inside, written_coming_in, written_going_out};
 
 use cube_alg::Stamp;
 use hdr_bits::Header;
-use header_rules::{from_inside, from_outside, is_outer};
-use net_types::{NatKind, NatRule};
+use header_rules::{
+    from_inside, from_outside, outer_rule_from, outer_rule_to, plain_rule_from, plain_rule_to,
+    port_rule_from, port_rule_to,
+};
+use net_types::NatRule;
 use net_view::{SeatRef, is_inside, is_outside};
 
 /// The header after translation where it comes in.
@@ -91,102 +91,5 @@ fn written_from_inside(rules: &[NatRule], h: &Header) -> Stamp
         dst,
         sport: None,
         dport: None,
-    }
-}
-
-// The first port rule that translates the header's destination.
-fn port_rule_to<'a>(rules: &'a [NatRule], h: &Header) -> Option<&'a NatRule>
-    ensures { option_copied result ≡ find (port_fits_dst h.now) rules.now }
-{
-    rules.iter().find(|r| port_fits_dst(h, r))
-}
-
-// The first plain rule that does.
-fn plain_rule_to<'a>(rules: &'a [NatRule], h: &Header) -> Option<&'a NatRule>
-    ensures { option_copied result ≡ find (plain_fits_dst h.now) rules.now }
-{
-    rules.iter().find(|r| plain_fits_dst(h, r))
-}
-
-// The first port rule that translates the header's source.
-fn port_rule_from<'a>(rules: &'a [NatRule], h: &Header) -> Option<&'a NatRule>
-    ensures { option_copied result ≡ find (port_fits_src h.now) rules.now }
-{
-    rules.iter().find(|r| port_fits_src(h, r))
-}
-
-// The first plain rule that does.
-fn plain_rule_from<'a>(rules: &'a [NatRule], h: &Header) -> Option<&'a NatRule>
-    ensures { option_copied result ≡ find (plain_fits_src h.now) rules.now }
-{
-    rules.iter().find(|r| plain_fits_src(h, r))
-}
-
-// The first outer rule that translates the header's source.
-fn outer_rule_from<'a>(rules: &'a [NatRule], h: &Header) -> Option<&'a NatRule>
-    ensures { option_copied result ≡ find (outer_fits_src h.now) rules.now }
-{
-    rules.iter().find(|r| outer_fits_src(h, r))
-}
-
-// The first outer rule that translates the header's destination.
-fn outer_rule_to<'a>(rules: &'a [NatRule], h: &Header) -> Option<&'a NatRule>
-    ensures { option_copied result ≡ find (outer_fits_dst h.now) rules.now }
-{
-    rules.iter().find(|r| outer_fits_dst(h, r))
-}
-
-fn port_fits_dst(h: &Header, rule: &NatRule) -> bool
-    ensures { result ≡ port_fits_dst h.now rule.now }
-{
-    is_port_rule(rule.kind, h.proto) && (rule.global == h.dst && rule.global_port == h.dport)
-}
-
-fn plain_fits_dst(h: &Header, rule: &NatRule) -> bool
-    ensures { result ≡ plain_fits_dst h.now rule.now }
-{
-    is_plain(rule.kind) && rule.global == h.dst
-}
-
-fn port_fits_src(h: &Header, rule: &NatRule) -> bool
-    ensures { result ≡ port_fits_src h.now rule.now }
-{
-    is_port_rule(rule.kind, h.proto) && (rule.local == h.src && rule.local_port == h.sport)
-}
-
-fn plain_fits_src(h: &Header, rule: &NatRule) -> bool
-    ensures { result ≡ plain_fits_src h.now rule.now }
-{
-    is_plain(rule.kind) && rule.local == h.src
-}
-
-fn outer_fits_src(h: &Header, rule: &NatRule) -> bool
-    ensures { result ≡ outer_fits_src h.now rule.now }
-{
-    is_outer(rule.kind) && rule.global == h.src
-}
-
-fn outer_fits_dst(h: &Header, rule: &NatRule) -> bool
-    ensures { result ≡ outer_fits_dst h.now rule.now }
-{
-    is_outer(rule.kind) && rule.local == h.dst
-}
-
-fn is_plain(kind: NatKind) -> bool
-    ensures { result ≡ is_plain kind }
-{
-    match kind {
-        NatKind::Plain => true,
-        NatKind::Tcp | NatKind::Udp | NatKind::Outer => false,
-    }
-}
-
-fn is_port_rule(kind: NatKind, proto: u8) -> bool
-    ensures { result ≡ is_port_rule kind proto }
-{
-    match kind {
-        NatKind::Plain | NatKind::Outer => false,
-        NatKind::Tcp => proto == 6,
-        NatKind::Udp => proto == 17,
     }
 }

@@ -5,7 +5,7 @@ use Rattle.std.specs.List.{cons_option}
 use Rattle.hdr_bits.specs.declared.header.Header.{Header}
 use Rattle.net_types.specs.declared.network.Move.{Move}
 use Rattle.net_types.specs.Walks.{end_of, outcome_of}
-use Rattle.plain_rules.specs.Outcomes.{outcome_by}
+use Rattle.header_rules.specs.Outcomes.{outcome_by}
 
 map_cons_option : {A B : Type 0} (f : A → B) (o : Option A) (xs : List A) → map f (cons_option o xs) ≡ cons_option (option_map f o) (map f xs)
 map_cons_option f None xs = refl
