@@ -34,7 +34,7 @@ pub record IsClass (cells : List ℕ) (class : Class) : Type 0 where
   pub passed : HoldOthers (window cells class.start) (label_of class) class.passed.items
   pub held : Follows (window cells class.start) (length class.passed.items) class.held
 
--- two classes stand at one place: in one cell, or both alone with one window
-pub record IsSamePlace (one other : Class) : Type 0 where
+-- two classes stand at one offset: in one cell, or both alone with one window
+pub record IsSameCell (one other : Class) : Type 0 where
   pub start : one.start ≡ other.start
   pub passed : length one.passed.items ≡ length other.passed.items

@@ -9,7 +9,7 @@ use Rattle.net_types.specs.contracts.label.OutcomeHash.TheImpl as outcome
 abbrev pub label_hash : List Outcome → ℕ
 label_hash label = folding.finish (fold folding.write folding.initial (fed.slice outcome.ghosts.hash_input label))
 
--- the place in the store at which the window of a label begins, in a store of so many cells
+-- the position in the store at which the window of a label begins, in a store of so many cells
 abbrev pub window_start : List Outcome → ℕ → ℕ
 window_start label count = label_hash label % count
 

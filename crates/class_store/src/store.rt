@@ -36,7 +36,7 @@ impl Model for ClassStore {
 }
 
 impl ClassStore {
-    ghost use Rattle.class_store.specs.Classes.{IsClass, IsSamePlace, label_of};
+    ghost use Rattle.class_store.specs.Classes.{IsClass, IsSameCell, label_of};
 
     /// A store of so many cells, all empty: from 32 to 1,048,576.
     pub fn new(alloc: Global, cells: u32) -> Result<ClassStore, NoMemory>
@@ -54,14 +54,14 @@ impl ClassStore {
         })
     }
 
-    // The cell of a window that has this place in it, from 0 to 31.
-    fn cell(&self, start: usize, place: usize) -> &OnceBox<Label>
+    // The cell of a window that has this offset in it, from 0 to 31.
+    fn cell(&self, start: usize, offset: usize) -> &OnceBox<Label>
         requires start { start < length self.now }
-        requires place { place < 32 }
-        ensures { slice_get (window self.now start) place ≡ Some (cell_name result.now) }
+        requires offset { offset < 32 }
+        ensures { slice_get (window self.now start) offset ≡ Some (cell_name result.now) }
     {
         let cells = self.cells.as_slice();
-        let at = start + place;
+        let at = start + offset;
         if at < cells.len() {
             &cells[at]
         } else {
@@ -92,8 +92,8 @@ impl ClassStore {
         let start = self.window_start(&label);
         let mut passed = Vec::new(self.alloc);
         let mut label = label;
-        for place in 0..WINDOW {
-            match offer(self.alloc, self.cell(start, place), label)? {
+        for offset in 0..WINDOW {
+            match offer(self.alloc, self.cell(start, offset), label)? {
                 Offered::Holds { known } => {
                     return Ok(Class {
                         start,
@@ -132,7 +132,7 @@ impl ClassStore {
         requires one { IsClass self.now one.now }
         requires other { IsClass self.now other.now }
         ensures labels { IsTrue result ↔ (label_of one.now ≡ label_of other.now) }
-        ensures place { IsTrue result → IsSamePlace one.now other.now }
+        ensures cell { IsTrue result → IsSameCell one.now other.now }
     {
         if one.start != other.start {
             return false;
@@ -142,7 +142,7 @@ impl ClassStore {
                 self.tell_apart(one, other);
                 false
             }
-            Ordering::Equal => self.same_place(one, other),
+            Ordering::Equal => self.same_cell(one, other),
             Ordering::Greater => {
                 self.tell_apart(other, one);
                 false
@@ -159,15 +159,15 @@ impl ClassStore {
         requires passed { length first.now.passed.items < length later.now.passed.items }
         ensures { label_of first.now ≢ label_of later.now }
     {
-        let place = first.passed.len();
+        let offset = first.passed.len();
         let Held::Cell { known } = &first.held else {
             unreachable!()
         };
-        agree(self.cell(first.start, place), known, &later.passed[place]);
+        agree(self.cell(first.start, offset), known, &later.passed[offset]);
     }
 
     // Two classes that have passed the same cells hold one cell, or both stand alone.
-    fn same_place(&self, one: &Class, other: &Class) -> bool
+    fn same_cell(&self, one: &Class, other: &Class) -> bool
         requires one { IsClass self.now one.now }
         requires other { IsClass self.now other.now }
         requires start { one.now.start ≡ other.now.start }

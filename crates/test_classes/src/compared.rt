@@ -92,8 +92,8 @@ fn compare(
     requires classes { All (IsClass store.now) classes.now }
 {
     let mut found = Compared::none();
-    for (class, place) in classes.iter().zip(0..round.count) {
-        let number = round.number_at(place);
+    for (class, position) in classes.iter().zip(0..round.count) {
+        let number = round.number_at(position);
         let read = store.label(class).same(&label(alloc, number)?);
         let same = is_same(store, class, first.get(number as usize));
         let other = round.other(number).and_then(|other| first.get(other));

@@ -45,8 +45,8 @@ impl Round {
         ensures of_store { IfOk result (λ classes. All (IsClass store.now) classes.items) }
     {
         let mut classes = Vec::new(alloc);
-        for place in 0..self.count {
-            let number = self.number_at(place);
+        for position in 0..self.count {
+            let number = self.number_at(position);
             classes.push(store.intern(label(alloc, number)?)?)?;
         }
         Ok(classes)

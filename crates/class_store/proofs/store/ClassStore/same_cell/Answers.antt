@@ -1,9 +1,9 @@
 use Rattle.std.proofs.Common.{arith}
 use Rattle.class_store.proofs.ClassLemmas.{cell_within, alone_passed}
-use Rattle.class_store.proofs.store.ClassStore.same_place.Goals as goal
+use Rattle.class_store.proofs.store.ClassStore.same_cell.Goals as goal
 
-pub cell-requires-clause-place : goal.cell-requires-clause-place
-cell-requires-clause-place c =
+pub cell-requires-clause-offset : goal.cell-requires-clause-offset
+cell-requires-clause-offset c =
     let one = c.args.one.now in
     let w = cell_within c.args.self.now one c.in-Cell.known c.requires.one c.in-Cell.is in
     omega (arith, w, c.len.ensures)
