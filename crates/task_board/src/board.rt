@@ -24,11 +24,12 @@ pub struct Board<M: Meaning> {
     roots: Vec<Region>,
     tickets: Slab<Region>,
     done: Rope<Leaf<M::Value>>,
+    // How many more regions can be opened without memory.
+    spare: usize,
 }
 
 impl<M: Meaning> Model for Board<M> {
-    ghost use Rattle.std.specs.Prelude.{◌-◌};
-    ghost use Rattle.slab.specs.Slab.{slab_len};
+    ghost use Rattle.slab.specs.Slab.{HasRoomFor};
     ghost use Rattle.task_board.specs.Stands.{Standing, Stands};
 
     ghost Value = { Standing M M.Value };
@@ -38,10 +39,10 @@ impl<M: Meaning> Model for Board<M> {
       roots = b.roots.items;
       tickets = b.tickets.slots;
       leaves = b.done.items;
-      spare = b.tickets.capacity - slab_len b.tickets;
+      spare = b.spare;
     } };
 
-    ghost invariant = { λ b. Stands (M.gives b.meaning) b.roots.items b.tickets.slots b.done.items };
+    ghost invariant = { λ b. Stands (M.gives b.meaning) b.roots.items b.tickets.slots b.done.items × HasRoomFor b.tickets b.spare };
 }
 
 /// A settle that isn't of this board: its leaves, and what the board holds instead. Where it holds neither another
@@ -76,16 +77,20 @@ impl<M: Meaning> Board<M> {
             roots: kept,
             tickets,
             done: Rope::new(alloc),
+            spare: 0,
         })
     }
 
-    /// Makes the spare at least so many parts, which a settle may then open. All else stays.
+    /// Makes the spare at least so many parts, which a settle may then open. All else stays. Where there is no memory for
+    /// it, the board is as it was.
     pub fn make_room(&mut self, parts: usize) -> Result<(), NoMemory>
         ensures room { OnOk result (parts ≤ self.new.spare) }
         ensures more { self.old.spare ≤ self.new.spare }
         ensures rest_kept { self.new ≡ record self.old { spare = self.new.spare } }
+        ensures unchanged { OnErr result (self.new ≡ self.old) }
     {
         self.tickets.reserve(parts)?;
+        self.spare = self.spare.max(parts);
         Ok(())
     }
 
@@ -121,6 +126,7 @@ impl<M: Meaning> Board<M> {
         let held = self.tickets.get(key).copied();
         if same && is_held(held, region) {
             self.tickets.remove(key);
+            self.spare -= rest.len();
             open_parts(&mut self.tickets, rest);
             self.done.append(finished);
             return Ok(());
@@ -182,6 +188,7 @@ impl<M: Meaning> Board<M> {
             roots: _,
             tickets: _,
             done,
+            spare: _,
         } = self;
         done
     }
