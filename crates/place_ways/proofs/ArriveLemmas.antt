@@ -1,5 +1,5 @@
 -- Arrival: the stages as ways.
-use Rattle.std.proofs.Common.{ℕ, ◌≡◌, ◌<◌, ◌+◌, ◌^◌, ◌↔◌, inl, inr, Bool, true, false, cond, if◌then◌else◌, List, [], ◌∷◌, ◌++◌, take, length, get_or, Option, Some, None, IsSome, refl, ap, sym, ◌∙◌, subst}
+use Rattle.std.proofs.Common.{ℕ, ◌≡◌, ◌<◌, ◌+◌, ◌^◌, ◌↔◌, inl, inr, Bool, true, false, if◌then◌else◌, List, [], ◌∷◌, ◌++◌, take, length, get_or, Option, Some, None, ap, sym, ◌∙◌, subst}
 use Rattle.std.specs.Prelude.{Contains, ◌&&◌}
 use Rattle.std.proofs.lemmas.List.{take_more}
 use Rattle.hdr_bits.specs.declared.header.Header.{Header}
@@ -10,23 +10,24 @@ use Rattle.cube_alg.specs.Stamps.{applied}
 use Rattle.cube_diagram.specs.Functions.{Functions, Keeps, count_of, value_at}
 use Rattle.net_forms.specs.Forms.{IsList}
 use Rattle.net_types.specs.declared.config.AccessList.{AccessList}
-use Rattle.net_types.specs.declared.config.NatRule.{NatRule}
 use Rattle.net_types.specs.declared.network.Move.{Move}
 use Rattle.net_types.specs.declared.network.Move.TheVariants as move
 use Rattle.net_types.specs.AccessLists.{passes, verdict}
-use Rattle.net_types.specs.Moves.{coming_in, is_outside}
-use Rattle.net_types.specs.Translation.{from_outside}
-use Rattle.net_types.specs.World.{Seat}
 use Rattle.net_types.proofs.Members.{here, in_one, in_none}
 use Rattle.set_walk.specs.declared.step.Step.{Step}
 use Rattle.set_walk.specs.declared.step.Step.TheVariants as step
 use Rattle.set_walk.specs.declared.step.Way.{Way}
 use Rattle.set_walk.specs.Sets.{InSet, IsSetOf}
+use Rattle.set_walk.specs.Told.{since}
 use Rattle.set_walk.specs.Ways.{HasMove, IsStamp, move_of}
-use Rattle.place_ways.specs.Adding.{AddsWays, AreGiven, ComeWithin, HasMoves, Makes, MakesAny, MakesBehind, after}
+use Rattle.set_walk.proofs.StampLemmas.{since_move}
+use Rattle.set_walk.proofs.ToldLemmas.{move_more}
+use Rattle.place_ways.specs.declared.parts.Part.{Part}
+use Rattle.place_ways.specs.Adding.{AddsWays, AreGiven, HasMoves, Makes, MakesAny, MakesBehind}
+use Rattle.place_ways.specs.Parts.{AreParts, MakesBehindOne}
 use Rattle.place_ways.proofs.SetLemmas.{kept_set, keeps_then, keeps_same, no_header}
-use Rattle.place_ways.proofs.AddLemmas.{adds_then, adds_same, adds_from, nothing_added, move_more, told_list, told_any}
-use Rattle.place_ways.proofs.StampLemmas.{applied_fits, after_move}
+use Rattle.place_ways.proofs.AddLemmas.{adds_then, adds_same, adds_from, given_move, nothing_added, told_list, told_any}
+use Rattle.place_ways.proofs.PartLemmas.{become_headers, by_parts}
 use Rattle.place_ways.proofs.LeaveLemmas.{split_choice}
 
 -- ---- behind ways of headers that came in
@@ -36,12 +37,12 @@ behind_none f given s ways b = nothing_added f f _ ways (keeps_same f) b (λ h v
     nowhere : (w : Way) → Contains [] w → ⊥
     nowhere w c = in_none w c
 
-pub behind_more : (f g0 g1 g2 : Functions) (given before set : ℕ) (s : Stamp) (base : List Way) (i : ℕ) (w : Way) (one : Step) (a b c : List Way) → IsStamp s → Keeps f g0 → Keeps g0 g1 → Keeps g1 g2 → given < count_of f → w.headers < count_of f → i < length base → w ≡ get_or base i w → one ≡ after s w.step → IsSetOf g1 before (λ h. InSet g0 w.headers (applied s h)) → IsSetOf g2 set (λ h. InSet g1 before h × InSet g1 given h) → AddsWays f g0 (MakesBehind f given s (take i base)) a b → AddsWays g2 g2 (Makes g2 set (λ h. move_of h one)) b c → AddsWays f g2 (MakesBehind f given s (take (i + 1) base)) a c
+pub behind_more : (f g0 g1 g2 : Functions) (given before set : ℕ) (s : Stamp) (base : List Way) (i : ℕ) (w : Way) (one : Step) (a b c : List Way) → IsStamp s → Keeps f g0 → Keeps g0 g1 → Keeps g1 g2 → given < count_of f → w.headers < count_of f → i < length base → w ≡ get_or base i w → one ≡ since s w.step → IsSetOf g1 before (λ h. InSet g0 w.headers (applied s h)) → IsSetOf g2 set (λ h. InSet g1 before h × InSet g1 given h) → AddsWays f g0 (MakesBehind f given s (take i base)) a b → AddsWays g2 g2 (Makes g2 set (λ h. move_of h one)) b c → AddsWays f g2 (MakesBehind f given s (take (i + 1) base)) a c
 behind_more f g0 g1 g2 given before set s base i w one a b c fits k0 k1 k2 lg lw l e t p q x y =
     adds_same f g2 _ _ a c (λ h v m.
     let gs = kept_set f g1 given h (keeps_then f g0 g1 k0 k1) lg in
     let ws = kept_set f g0 w.headers (applied s h) k0 lw in
-    let mv : move_of h one ≡ move_of (applied s h) w.step = ap (move_of h) t ∙ after_move s h w.step in
+    let mv : move_of h one ≡ move_of (applied s h) w.step = ap (move_of h) t ∙ since_move s h w.step in
     let more = move_more f (take i base) w (applied s h) m in
     let taken : take (i + 1) base ≡ take i base ++ w ∷ [] = take_more base i w l ∙ ap (λ z. take i base ++ z ∷ []) (sym e) in (
       λ u. elim u [
@@ -54,26 +55,20 @@ behind_more f g0 g1 g2 given before set s base i w one a b c fits k0 k1 k2 lg lw
       ],
     )) (adds_then f g0 g2 _ _ a b c x (adds_from g0 g2 g2 _ b c (keeps_then g0 g1 g2 k1 k2) x.given y))
 
-pub behind_done : (f g : Functions) (given scope : ℕ) (s : Stamp) (base : List Way) (moves : Header → List Move) (a b : List Way) → IsStamp s → HasMoves moves f scope base → ((h : Header) → IsHeader h → InSet f given h → InSet f scope (applied s h)) → AddsWays f g (MakesBehind f given s base) a b → AddsWays f g (MakesAny f given (λ h. moves (applied s h))) a b
-behind_done f g given scope s base moves a b fits has inside p =
-    adds_same f g _ _ a b (λ h v m. (
-      λ x. (x.0, (has (applied s h) (applied_fits s h fits v) (inside h v x.0) m).1 x.1),
-      λ x. (x.0, (has (applied s h) (applied_fits s h fits v) (inside h v x.0) m).0 x.1),
-    )) p
+-- the same once the table has grown
+pub behind_kept : (f g : Functions) (set : ℕ) (s : Stamp) (base : List Way) (h : Header) (m : Move) → Keeps f g → set < count_of f → AreGiven f base → MakesBehind g set s base h m ↔ MakesBehind f set s base h m
+behind_kept f g set s base h m k l b =
+    let z = kept_set f g set h k l in
+    let w = given_move f g base (applied s h) m k b in
+    (λ x. (z.0 x.0, w.0 x.1), λ x. (z.1 x.0, w.1 x.1))
 
--- ---- headers of the scope that come in
-pub come_kept : (nat : List NatRule) (f g : Functions) (given scope : ℕ) → Keeps f g → given < count_of f → scope < count_of f → ComeWithin nat f given scope → ComeWithin nat g given scope
-come_kept nat f g given scope k lg ls a h v i = (kept_set f g scope (from_outside nat h) k ls).1 (a h v ((kept_set f g given h k lg).0 i))
-
-pub come_part : (nat : List NatRule) (f g : Functions) (given part scope : ℕ) → Keeps f g → scope < count_of f → ((h : Header) → IsHeader h → InSet g part h → InSet f given h) → ComeWithin nat f given scope → ComeWithin nat g part scope
-come_part nat f g given part scope k ls p a h v i = (kept_set f g scope (from_outside nat h) k ls).1 (a h v (p h v i))
-
--- what is left of a set in an older table
-pub rest_within : (f g k : Functions) (given other rest : ℕ) → Keeps f g → given < count_of f → IsSetOf k rest (λ h. InSet g given h × (InSet g other h → ⊥)) → (h : Header) → IsHeader h → InSet k rest h → InSet f given h
-rest_within f g k given other rest e l p h v i = (kept_set f g given h e l).0 ((p h v).0 i).0
-
-pub comes_outside : (f : Functions) (scope : ℕ) (seat : Seat) (h : Header) → is_outside seat.interface.side ≡ true → InSet f scope (coming_in seat h) → InSet f scope (from_outside seat.device.config.nat h)
-comes_outside f scope seat h e i = subst (λ t. InSet f scope (cond t (from_outside seat.device.config.nat h) h)) e i
+-- headers that become headers of the scope, in parts
+pub arrived : (f g k : Functions) (given scope : ℕ) (becomes : Header → Header) (parts : List Part) (base : List Way) (moves : Header → List Move) (a b : List Way) → Keeps f g → AreGiven f a → AreParts g (InSet f given) becomes parts → HasMoves moves g scope base → ((h : Header) → IsHeader h → InSet f given h → InSet g scope (becomes h)) → AddsWays g k (MakesBehindOne g parts base) a b → AddsWays f k (MakesAny f given (λ h. moves (becomes h))) a b
+arrived f g k given scope becomes parts base moves a b e t ps has inside p =
+    adds_same f k _ _ a b (λ h v m. (
+      λ x. (x.0, (has (becomes h) (become_headers becomes g (InSet f given) parts ps h v x.0) (inside h v x.0) m).1 x.1),
+      λ x. (x.0, (has (becomes h) (become_headers becomes g (InSet f given) parts ps h v x.0) (inside h v x.0) m).0 x.1),
+    )) (by_parts becomes f g k given parts (λ h q m. HasMove g base q m) a b e t ps p)
 
 pub nothing_behind : (f : Functions) (given : ℕ) (s : Stamp) (base ways : List Way) → AreGiven f ways → ((n : ℕ) → n < 2 ^ 112 → value_at f given n ≡ None) → AddsWays f f (MakesBehind f given s base) ways ways
 nothing_behind f given s base ways b n = nothing_added f f _ ways (keeps_same f) b (λ h v m x. no_header f given h n (number-below h v) x.0)
@@ -99,17 +94,8 @@ opened a b xs ys e = ap (λ t. if t && b then xs else ys) e
 pub closed : (a b : Bool) (xs ys : List Move) → a ≡ false → (if a && b then xs else ys) ≡ ys
 closed a b xs ys e = ap (λ t. if t && b then xs else ys) e
 
-pub same_any : (xs ys : List Move) (m : Move) → xs ≡ ys → Contains xs m ↔ Contains ys m
+same_any : (xs ys : List Move) (m : Move) → xs ≡ ys → Contains xs m ↔ Contains ys m
 same_any xs ys m e = (λ c. subst (λ l. Contains l m) e c, λ c. subst (λ l. Contains l m) (sym e) c)
 
 pub same_lists : (f g : Functions) (set : ℕ) (xs ys : Header → List Move) (a b : List Way) → ((h : Header) → xs h ≡ ys h) → AddsWays f g (MakesAny f set xs) a b → AddsWays f g (MakesAny f set ys) a b
 same_lists f g set xs ys a b e p = told_any f g set xs ys a b (λ h v i m. same_any _ _ m (e h)) p
-
--- ---- translation from outside
-pub translated_in : (f k : Functions) (set : ℕ) (seat : Seat) (moves : Header → List Move) (a b : List Way) → is_outside seat.interface.side ≡ true → AddsWays f k (MakesAny f set (λ h. moves (from_outside seat.device.config.nat h))) a b → AddsWays f k (MakesAny f set (λ h. moves (coming_in seat h))) a b
-translated_in f k set seat moves a b e p =
-    told_any f k set (λ h. moves (from_outside seat.device.config.nat h)) (λ h. moves (coming_in seat h)) a b (λ h v i m. same_any _ _ m (ap (λ t. moves (cond t (from_outside seat.device.config.nat h) h)) (sym e))) p
-
-pub untranslated_in : (f k : Functions) (set : ℕ) (seat : Seat) (moves : Header → List Move) (s : Stamp) (a b : List Way) → s ≡ record { src = None; dst = None; sport = None; dport = None } → is_outside seat.interface.side ≡ false → AddsWays f k (MakesAny f set (λ h. moves (applied s h))) a b → AddsWays f k (MakesAny f set (λ h. moves (coming_in seat h))) a b
-untranslated_in f k set seat moves s a b n e p =
-    told_any f k set (λ h. moves (applied s h)) (λ h. moves (coming_in seat h)) a b (λ h v i m. same_any _ _ m (ap (λ (t : Stamp). moves (applied t h)) n ∙ ap (λ t. moves (cond t (from_outside seat.device.config.nat h) h)) (sym e))) p

@@ -1,5 +1,5 @@
 -- The ways of headers that came in, which places share.
-use Rattle.std.proofs.Common.{ℕ, ◌≡◌, ◌<◌, inl, inr, nat_eq, Bool, true, false, cond, List, [], ◌∷◌, map, slice_get, Option, Some, None, IsSome, position, option_and_then, refl, ap, sym, ◌∙◌, subst, true≢false}
+use Rattle.std.proofs.Common.{ℕ, ◌≡◌, ◌<◌, inl, inr, nat_eq, Bool, true, false, cond, List, [], ◌∷◌, map, slice_get, Option, Some, None, position, option_and_then, refl, ap, sym, ◌∙◌, subst, true≢false}
 use Rattle.std.specs.Prelude.{Contains, IfSome, ◌&&◌}
 use Rattle.std.proofs.lemmas.Bool.Decides.{eqb_tells}
 use Rattle.hdr_bits.specs.declared.header.Header.{Header}
@@ -23,10 +23,12 @@ use Rattle.net_types.specs.World.{World, Seat, seat_in, seat_named, segment_of}
 use Rattle.set_walk.specs.declared.net.PlaceWays.{PlaceWays}
 use Rattle.set_walk.specs.declared.step.Way.{Way}
 use Rattle.set_walk.specs.Sets.{InSet, IsSetOf}
+use Rattle.net_view.specs.Borrowed.{seat_of}
 use Rattle.place_ways.specs.declared.base.Bases.{Bases}
+use Rattle.place_ways.specs.declared.seat.WaySeat.{WaySeat}
 use Rattle.place_ways.specs.Adding.{AreGiven, HasMoves}
 use Rattle.place_ways.specs.Places.{AreBases, HasSeatWays, IsBase, base_of, with_base}
-use Rattle.place_ways.proofs.SetLemmas.{kept_set}
+use Rattle.place_ways.specs.Seats.{AreWaysIn}
 use Rattle.place_ways.proofs.AddLemmas.{given_kept, moves_kept}
 
 -- ---- what becomes of headers that came in depends on the device and on whether the interface is inside
@@ -108,8 +110,11 @@ all_taken w f g seat function scope passed list enabled outside p same h v i =
     ∙ (ap (λ b. cond b (moves_in w seat (coming_in seat h)) (move.Drop ∷ [])) t
     ∙ ap (λ b. moves_in w seat (cond b (from_outside seat.device.config.nat h) h)) outside)
 
-pub base_moves : (w : World) (fs : Functions) (scope : ℕ) (lists : List PlaceWays) (seat : Seat) (i : ℕ) (b : IsBase w fs scope lists seat.device (is_inside seat.interface.side) i) → HasMoves (moves_in w seat) fs scope b.ways.ways.items
-base_moves w fs scope lists seat i b = b.moves seat refl refl
+pub base_ways : (fs : Functions) (s : WaySeat) (lists : List PlaceWays) (i : ℕ) (b : IsBase s.wiring.now fs s.scope lists s.seat.device.now (is_inside s.seat.interface.now.side) i) → AreWaysIn fs s b.ways.ways.items
+base_ways fs s lists i b = record { given = b.given; moves = b.moves (seat_of s.seat) refl refl }
+
+pub ways_in_kept : (f g : Functions) (s : WaySeat) (ways : List Way) → Keeps f g → s.scope < count_of f → AreWaysIn f s ways → AreWaysIn g s ways
+ways_in_kept f g s ways k l a = record { given = given_kept f g ways k a.given; moves = moves_kept f g s.scope (moves_in s.wiring.now (seat_of s.seat)) ways k l a.given a.moves }
 
 pub seat_base : (w : World) (fs : Functions) (scope : ℕ) (lists : List PlaceWays) (seat : Seat) (i : ℕ) → IsBase w fs scope lists seat.device (is_inside seat.interface.side) i → ((h : Header) → IsHeader h → InSet fs scope h → moves_at w (Some seat) h ≡ moves_in w seat h) → HasSeatWays w fs scope lists seat i
 seat_base w fs scope lists seat i b e =

@@ -1,31 +1,25 @@
 -- Leaving: the stages as ways.
-use Rattle.std.proofs.Common.{ℕ, ◌≡◌, ◌<◌, ◌⊎◌, ◌↔◌, inl, inr, Bool, true, false, cond, if◌then◌else◌, List, Option, Some, None, refl, ap, sym, ◌∙◌, subst}
-use Rattle.std.specs.Prelude.{◌&&◌}
+use Rattle.std.proofs.Common.{ℕ, ◌≡◌, ◌<◌, ◌⊎◌, ◌↔◌, inl, inr, Bool, true, false, if◌then◌else◌, List, Option, Some, None, ap}
 use Rattle.hdr_bits.specs.declared.header.Header.{Header}
 use Rattle.hdr_bits.specs.HeaderBits.{number}
 use Rattle.acl_match.specs.Lists.{number_of}
 use Rattle.cube_alg.specs.declared.stamp.Stamp.{Stamp}
 use Rattle.cube_alg.specs.Stamps.{applied}
 use Rattle.cube_diagram.specs.Functions.{Functions, Keeps, count_of, value_at}
-use Rattle.nat_static.specs.Rules.{outer_from_inside, rule_from_inside}
-use Rattle.link_sends.specs.declared.sent.Next.{Next}
-use Rattle.link_sends.specs.Sending.{next_address}
 use Rattle.net_forms.specs.Forms.{IsList}
 use Rattle.net_types.specs.declared.config.AccessList.{AccessList}
-use Rattle.net_types.specs.declared.config.NatRule.{NatRule}
 use Rattle.net_types.specs.declared.network.Move.{Move}
 use Rattle.net_types.specs.declared.network.Move.TheVariants as move
 use Rattle.net_types.specs.AccessLists.{passes, verdict}
-use Rattle.net_types.specs.Moves.{is_inside, is_outside, leave, leave_if_any, leave_with}
-use Rattle.net_types.specs.Translation.{from_inside}
+use Rattle.net_types.specs.Moves.{leave, leave_if_any}
 use Rattle.net_types.specs.World.{World, Seat}
 use Rattle.set_walk.specs.declared.step.Way.{Way}
 use Rattle.set_walk.specs.Sets.{InSet, IsSetOf}
 use Rattle.set_walk.specs.Ways.{IsStamp}
+use Rattle.set_walk.proofs.StampLemmas.{applied_fits}
 use Rattle.place_ways.specs.Adding.{AddsWays, AreGiven, Makes}
 use Rattle.place_ways.proofs.SetLemmas.{kept_set, keeps_then}
 use Rattle.place_ways.proofs.AddLemmas.{adds_then, adds_same, adds_from, told_same}
-use Rattle.place_ways.proofs.StampLemmas.{applied_fits}
 
 -- ---- a choice by a list
 no_pass : (x : Option ℕ) → x ≡ Some 0 → x ≡ Some 1 → ⊥
@@ -60,34 +54,9 @@ passed_lost d0 d1 d2 d3 d4 list function given passed lost s sends w0 w1 w2 fits
       λ u. elim (z.1 u) [ inl i ↦ inl i | inr i ↦ inr (ps.1 i.0, i.1) ],
     )) (adds_from d0 d2 d4 _ w0 w2 (keeps_then d0 d1 d2 k0 k1) b (adds_then d2 d3 d4 _ _ w0 w1 w2 a c))
 
--- ---- the stamp of two rules, of rules that were lent
-pub lent_rules : (lent nat : List NatRule) (rule outer : Option ℕ) (s : Stamp) → lent ≡ nat → ((h : Header) → rule_from_inside lent h ≡ rule → outer_from_inside lent h ≡ outer → applied s h ≡ from_inside lent h) → (h : Header) → rule_from_inside nat h ≡ rule → outer_from_inside nat h ≡ outer → applied s h ≡ from_inside nat h
-lent_rules lent nat rule outer s e p = subst (λ rules. (h : Header) → rule_from_inside rules h ≡ rule → outer_from_inside rules h ≡ outer → applied s h ≡ from_inside rules h) e p
-
--- ---- not from an inside to an outside interface
-pub not_first : (a b : Bool) → a ≡ false → (a && b) ≡ false
-not_first a b e = ap (λ x. x && b) e
-
-pub not_second : (a b : Bool) → b ≡ false → (a && b) ≡ false
-not_second true b e = e
-not_second false b e = refl
-
--- ---- translation from inside
-module _ (w : World) (seat out : Seat) where
-  pub translated_out : (f k : Functions) (set : ℕ) (next : Header → ℕ) (a b : List Way) → (is_inside seat.interface.side && is_outside out.interface.side) ≡ true → AddsWays f k (Makes f set (λ h. leave_with w seat (from_inside seat.device.config.nat h) (next h) out)) a b → AddsWays f k (Makes f set (λ h. leave w seat h (next h) out)) a b
-  translated_out f k set next a b e p =
-      told_same f k set (λ h. leave_with w seat (from_inside seat.device.config.nat h) (next h) out) (λ h. leave w seat h (next h) out) a b (λ h v i. ap (λ t. leave_with w seat (cond t (from_inside seat.device.config.nat h) h) (next h) out) (sym e)) p
-
-  pub untranslated_out : (f k : Functions) (set : ℕ) (next : Next) (s : Stamp) (a b : List Way) → s ≡ record { src = None; dst = None; sport = None; dport = None } → (is_inside seat.interface.side && is_outside out.interface.side) ≡ false → AddsWays f k (Makes f set (λ h. leave_with w seat (applied s h) (next_address next h) out)) a b → AddsWays f k (Makes f set (λ h. leave w seat h (next_address next h) out)) a b
-  untranslated_out f k set next s a b n e p =
-      told_same f k set (λ h. leave_with w seat (applied s h) (next_address next h) out) (λ h. leave w seat h (next_address next h) out) a b (λ h v i. ap (λ (t : Stamp). leave_with w seat (applied t h) (next_address next h) out) n ∙ ap (λ t. leave_with w seat (cond t (from_inside seat.device.config.nat h) h) (next_address next h) out) (sym e)) p
-
 -- ---- an interface by its name
 pub named_none : (w : World) (seat : Seat) (f k : Functions) (set : ℕ) (next : Header → ℕ) (o : Option Seat) (a b : List Way) → None ≡ o → AddsWays f k (Makes f set (λ h. move.Lost)) a b → AddsWays f k (Makes f set (λ h. leave_if_any w seat h (next h) o)) a b
 named_none w seat f k set next o a b e p = told_same f k set (λ h. move.Lost) (λ h. leave_if_any w seat h (next h) o) a b (λ h v i. ap (leave_if_any w seat h (next h)) e) p
 
 pub named_some : (w : World) (seat out : Seat) (f k : Functions) (set : ℕ) (next : Header → ℕ) (o : Option Seat) (a b : List Way) → Some out ≡ o → AddsWays f k (Makes f set (λ h. leave w seat h (next h) out)) a b → AddsWays f k (Makes f set (λ h. leave_if_any w seat h (next h) o)) a b
 named_some w seat out f k set next o a b e p = told_same f k set (λ h. leave w seat h (next h) out) (λ h. leave_if_any w seat h (next h) o) a b (λ h v i. ap (leave_if_any w seat h (next h)) e) p
-
-pub same_move : (x y m : Move) → x ≡ y → (x ≡ m) ↔ (y ≡ m)
-same_move x y m e = (λ q. sym e ∙ q, λ q. e ∙ q)

@@ -1,7 +1,9 @@
 pub mod SetLemmas
-pub mod AddLemmas
-pub mod StampLemmas
+pub mod AddedLemmas
 pub mod AmongLemmas
+pub mod AddLemmas
+pub mod PartLemmas
+pub mod StampLemmas
 pub mod RangeLemmas
 pub mod FateLemmas
 pub mod LinkLemmas

@@ -4,15 +4,13 @@ use Rattle.std.specs.List.{list_any}
 use Rattle.hdr_bits.specs.declared.header.Header.{Header}
 use Rattle.hdr_bits.specs.HeaderBits.{number, IsHeader}
 use Rattle.cube_alg.specs.declared.stamp.Stamp.{Stamp}
-use Rattle.cube_alg.specs.Stamps.{applied, followed}
+use Rattle.cube_alg.specs.Stamps.{applied}
 use Rattle.cube_diagram.specs.Functions.{Functions, count_of, value_at}
 use Rattle.cube_diagram.specs.Images.{retold}
 use Rattle.link_sends.specs.declared.sent.Sent.{Sent}
 use Rattle.link_sends.specs.declared.sent.Sent.TheVariants as sent
-use Rattle.net_types.specs.declared.config.NatRule.{NatRule}
 use Rattle.net_types.specs.declared.network.Move.{Move}
 use Rattle.net_types.specs.declared.network.Place.{Place}
-use Rattle.net_types.specs.Translation.{from_outside}
 use Rattle.set_walk.specs.declared.step.Step.{Step}
 use Rattle.set_walk.specs.declared.step.Step.TheVariants as step
 use Rattle.set_walk.specs.declared.step.Way.{Way}
@@ -40,10 +38,6 @@ Makes fs set move h m = InSet fs set h × (move h ≡ m)
 abbrev pub MakesAny : Functions → ℕ → (Header → List Move) → Header → Move → Type 0
 MakesAny fs set moves h m = InSet fs set h × Contains (moves h) m
 
--- a header of the set is of the scope once it was translated from outside
-abbrev pub ComeWithin : List NatRule → Functions → ℕ → ℕ → Type 0
-ComeWithin nat fs set scope = (h : Header) → IsHeader h → InSet fs set h → InSet fs scope (from_outside nat h)
-
 -- headers of the set make the moves that others have by the ways, once the stamp was applied
 abbrev pub MakesBehind : Functions → ℕ → Stamp → List Way → Header → Move → Type 0
 MakesBehind fs set s ways h m = InSet fs set h × HasMove fs ways (applied s h) m
@@ -52,11 +46,11 @@ MakesBehind fs set s ways h m = InSet fs set h × HasMove fs ways (applied s h) 
 abbrev pub HasValue : Functions → ℕ → ℕ → Header → Type 0
 HasValue fs function v h = value_at fs function (number h) ≡ Some v
 
--- the header has one of these values
-pub record IsAmong (value : Header → Option ℕ) (values : List ℕ) (h : Header) : Type 0 where
-  pub one : ℕ
-  pub among : Contains values one
-  pub has : value h ≡ Some one
+-- one of the list is so
+pub record ByOne {A : Type 0} (P : A → Type 0) (xs : List A) : Type 0 where
+  pub one : A
+  pub among : Contains xs one
+  pub is : P one
 
 -- the part gives a header how far the value that the function gives it is from the first of these values, as many as counted,
 -- and nothing where it is none of them
@@ -77,14 +71,6 @@ TellsRange first count told = (u v : ℕ) → (retold told (Some u) ≡ Some v) 
 pub record TellsAddresses (fs : Functions) (addresses : List ℕ) (function : ℕ) : Type 0 where
   pub below : function < count_of fs
   pub exact : (h : Header) → IsHeader h → value_at fs function (number h) ≡ (if list_any (λ a. h.dst == a) addresses then Some h.dst else None)
-
--- the step of headers that the stamp made
-abbrev pub after : Stamp → Step → Step
-after s step.Drop = step.Drop
-after s (step.Local p) = step.Local p
-after s step.Lost = step.Lost
-after s (step.Exit p t) = step.Exit p (followed s t)
-after s (step.Go p t) = step.Go p (followed s t)
 
 -- the step of packets that are sent with the stamp
 abbrev pub stamped_step : Place → Stamp → Sent → Step

@@ -1,3 +1,5 @@
 pub mod Adding
+pub mod Parts
+pub mod Leaving
 pub mod Seats
 pub mod Places

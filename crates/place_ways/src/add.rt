@@ -1,15 +1,14 @@
 //! How a way is added to those that there are.
 
-ghost use Rattle.std.specs.Prelude.{◌≡◌, ◌<◌, ℕ, Some, OnOk, IfSome, slice_get, true};
+ghost use Rattle.std.specs.Prelude.{◌≡◌, ◌<◌, ℕ, Some, OnOk, IfSome, slice_get};
 ghost use Rattle.cube_diagram.specs.Functions.{Keeps, count_of};
 ghost use Rattle.set_walk.specs.Ways.{IsStamp, OfStamp, move_of};
 ghost use Rattle.place_ways.specs.Adding.{AddsWays, AreGiven, Makes};
 
 use crate::sets::either;
-use cube_alg::Stamp;
 use cube_diagram::Diagrams;
-use net_types::{NoMemory, Place};
-use set_walk::{Step, Way};
+use net_types::NoMemory;
+use set_walk::{Step, Way, same_step};
 
 /// Adds a way of its own for the headers of this set, if there are any.
 pub(crate) fn add_way(
@@ -62,33 +61,4 @@ fn position_of(ways: &[Way], step: &Step) -> Option<usize>
         }
     }
     None
-}
-
-fn same_step(a: &Step, b: &Step) -> bool
-    ensures { result ≡ true → a.now ≡ b.now }
-{
-    match (*a, *b) {
-        (Step::Drop, Step::Drop) => true,
-        (Step::Lost, Step::Lost) => true,
-        (Step::Local { place: p }, Step::Local { place: q }) => same_place(p, q),
-        (Step::Exit { place: p, stamp: s }, Step::Exit { place: q, stamp: t }) => {
-            same_place(p, q) && same_stamp(s, t)
-        }
-        (Step::Go { place: p, stamp: s }, Step::Go { place: q, stamp: t }) => {
-            same_place(p, q) && same_stamp(s, t)
-        }
-        _ => false,
-    }
-}
-
-fn same_place(p: Place, q: Place) -> bool
-    ensures { result ≡ true → p ≡ q }
-{
-    p == q
-}
-
-fn same_stamp(s: Stamp, t: Stamp) -> bool
-    ensures { result ≡ true → s ≡ t }
-{
-    s == t
 }

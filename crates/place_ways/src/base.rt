@@ -11,7 +11,7 @@ ghost use Rattle.net_view.specs.Borrowed.{seat_of};
 ghost use Rattle.set_walk.specs.Sets.{InSet};
 ghost use Rattle.place_ways.specs.Adding.{AreGiven, HasMoves};
 ghost use Rattle.place_ways.specs.Places.{AreBases, HasSeatWays, IsBase, base_of, with_base};
-ghost use Rattle.place_ways.specs.Seats.{IsWaySeat};
+ghost use Rattle.place_ways.specs.Seats.{AreWaysIn, IsWaySeat};
 
 use crate::arrive::add_arrivals;
 use crate::forward::ways_in;
@@ -145,8 +145,7 @@ fn ways_by(
     base: &[Way],
 ) -> Result<Vec<Way>, NoMemory>
     requires at { IsWaySeat table.old at }
-    requires base_given { AreGiven table.old base.now }
-    requires base { HasMoves (moves_in at.wiring.now (seat_of at.seat)) table.old at.scope base.now }
+    requires base { AreWaysIn table.old at base.now }
     ensures given { IfOk result (λ r. AreGiven table.new r.items) }
     ensures moves { IfOk result (λ r. HasMoves (moves_at at.entry.wiring.now (Some (seat_of at.entry.seat))) table.new at.entry.scope r.items) }
     ensures kept { Keeps table.old table.new }

@@ -1,38 +1,41 @@
 //! Leaving: the choice of the lookup, translation from inside, and the output list.
 
-ghost use Rattle.std.specs.Prelude.{◌≡◌, ◌<◌, Some, OnOk};
-ghost use Rattle.hdr_bits.specs.declared.header.Header.{Header};
-ghost use Rattle.hdr_bits.specs.HeaderBits.{IsHeader};
+ghost use Rattle.std.specs.Prelude.{◌≡◌, ◌<◌, ◌&&◌, OnOk};
 ghost use Rattle.cube_alg.specs.Stamps.{applied};
 ghost use Rattle.cube_diagram.specs.Functions.{Keeps, count_of};
 ghost use Rattle.fib_lookup.specs.Forms.{hop_of};
 ghost use Rattle.link_sends.specs.Sending.{next_address};
-ghost use Rattle.nat_static.specs.Rules.{outer_from_inside, rule_from_inside};
-ghost use Rattle.net_forms.specs.Forms.{IsSeatForm};
-ghost use Rattle.net_types.specs.Moves.{leave, leave_if_any, leave_with, move_by};
-ghost use Rattle.net_types.specs.Translation.{from_inside};
+ghost use Rattle.net_types.specs.Moves.{is_inside, is_outside, leave, leave_if_any, move_by};
 ghost use Rattle.net_types.specs.World.{seat_named};
 ghost use Rattle.net_view.specs.Borrowed.{seat_of};
-ghost use Rattle.set_walk.specs.Sets.{InSet};
 ghost use Rattle.set_walk.specs.Ways.{IsStamp};
-ghost use Rattle.place_ways.specs.Adding.{AddsWays, AreGiven, IsAmong, Makes};
+ghost use Rattle.place_ways.specs.Adding.{AddsWays, AreGiven, Makes};
+ghost use Rattle.place_ways.specs.Leaving.{IsOut, LeavesByOne, leaves};
+ghost use Rattle.place_ways.specs.Parts.{AreStamped};
 ghost use Rattle.place_ways.specs.Seats.{IsWaySeat};
 
 use crate::add::join_way;
 use crate::link::{Link, add_sent};
+use crate::parts::{Part, Translation, parts_of};
 use crate::seat::{WaySeat, out_named};
-use crate::sets::{where_value, where_value_after, without};
+use crate::sets::{where_value_after, without};
 use cube_alg::Stamp;
 use cube_diagram::Diagrams;
 use fib_lookup::HopForm;
-use hdr_bits::Cube;
 use link_sends::Next;
-use nat_static::inside_stamp;
 use net_forms::FormedSeat;
 use net_types::NoMemory;
 use net_view::{is_inside, is_outside};
 use set_walk::{Step, Way};
 use std::alloc::Global;
+
+/// An interface of the device, by which headers that came in leave, and the address that they are sent to next.
+#[derive(Clone, Copy)]
+pub(crate) struct Leaving<'a> {
+    pub(crate) at: WaySeat<'a>,
+    pub(crate) out: FormedSeat<'a>,
+    pub(crate) next: Next,
+}
 
 /// Adds the ways of the given headers by a choice of the lookup.
 pub(crate) fn add_choice(
@@ -87,189 +90,60 @@ fn add_named(
         join_way(table, ways, Step::Lost, given)?;
         return Ok(());
     };
-    add_out(alloc, table, at, out, next, given, ways)?;
+    add_out(alloc, table, Leaving { at, out, next }, given, ways)?;
     Ok(())
 }
 
-// Out of this interface of the device. From an inside to an outside one they are translated from inside.
+// From an inside to an outside interface they are translated from inside.
 fn add_out(
     alloc: Global,
     table: &mut Diagrams,
-    at: WaySeat,
-    out: FormedSeat,
-    next: Next,
+    leaving: Leaving,
     given: u32,
     ways: &mut Vec<Way>,
 ) -> Result<(), NoMemory>
-    requires at { IsWaySeat table.old at }
-    requires out { IsSeatForm table.old at.seat.device.now.config out.seat.interface.now out.form }
+    requires at { IsWaySeat table.old leaving.at }
+    requires out { IsOut table.old leaving }
     requires given { given < count_of table.old }
     requires ways { AreGiven table.old ways.old.items }
-    ensures added { OnOk result (AddsWays table.old table.new (Makes table.old given (λ h. leave at.entry.wiring.now (seat_of at.entry.seat) h (next_address next h) (seat_of out.entry.seat))) ways.old.items ways.new.items) }
+    ensures added { OnOk result (AddsWays table.old table.new (Makes table.old given (λ h. leave leaving.entry.at.wiring.now (seat_of leaving.entry.at.seat) h (next_address leaving.entry.next h) (seat_of leaving.entry.out.seat))) ways.old.items ways.new.items) }
     ensures kept { Keeps table.old table.new }
 {
-    if is_inside(at.seat.interface.side) && is_outside(out.seat.interface.side) {
-        add_translated(alloc, table, at, out, next, given, ways)?;
-        return Ok(());
+    let inside = Translation {
+        device: leaving.at.seat.device,
+        from_outside: false,
+        rule: leaving.at.device.inside,
+        outer: leaving.at.device.outer_inside,
+    };
+    let translated = goes_outside(leaving);
+    let parts = parts_of(alloc, table, inside, translated, given)?;
+    add_parts(alloc, table, leaving, &parts, ways)?;
+    Ok(())
+}
+
+fn goes_outside(leaving: Leaving) -> bool
+    ensures { result ≡ (is_inside leaving.entry.at.seat.interface.now.side && is_outside leaving.entry.out.seat.interface.now.side) }
+{
+    is_inside(leaving.at.seat.interface.side) && is_outside(leaving.out.seat.interface.side)
+}
+
+// Of the headers of each part, once its stamp was applied.
+fn add_parts(
+    alloc: Global,
+    table: &mut Diagrams,
+    leaving: Leaving,
+    parts: &[Part],
+    ways: &mut Vec<Way>,
+) -> Result<(), NoMemory>
+    requires out { IsOut table.old leaving }
+    requires parts { AreStamped table.old parts.now }
+    requires ways { AreGiven table.old ways.old.items }
+    ensures added { OnOk result (AddsWays table.old table.new (LeavesByOne table.old parts.now leaving.entry) ways.old.items ways.new.items) }
+    ensures kept { Keeps table.old table.new }
+{
+    for part in parts {
+        add_passed(alloc, table, leaving, part.headers, part.stamp, ways)?;
     }
-    add_passed(alloc, table, at, out, next, given, Stamp::none(), ways)?;
-    Ok(())
-}
-
-// By each port or plain rule the headers to which it applies, and those to which none does.
-fn add_translated(
-    alloc: Global,
-    table: &mut Diagrams,
-    at: WaySeat,
-    out: FormedSeat,
-    next: Next,
-    given: u32,
-    ways: &mut Vec<Way>,
-) -> Result<(), NoMemory>
-    requires at { IsWaySeat table.old at }
-    requires out { IsSeatForm table.old at.seat.device.now.config out.seat.interface.now out.form }
-    requires given { given < count_of table.old }
-    requires ways { AreGiven table.old ways.old.items }
-    ensures added { OnOk result (AddsWays table.old table.new (Makes table.old given (λ h. leave_with at.entry.wiring.now (seat_of at.entry.seat) (from_inside at.entry.seat.device.now.config.nat h) (next_address next h) (seat_of out.entry.seat))) ways.old.items ways.new.items) }
-    ensures kept { Keeps table.old table.new }
-{
-    let rules = table.values_on(alloc, at.device.inside, &Cube::all())?;
-    add_rules(alloc, table, at, out, next, rules.as_slice(), given, ways)?;
-    let rest = without(table, given, at.device.inside)?;
-    add_outer(alloc, table, at, out, next, None, rest, ways)?;
-    Ok(())
-}
-
-fn add_rules(
-    alloc: Global,
-    table: &mut Diagrams,
-    at: WaySeat,
-    out: FormedSeat,
-    next: Next,
-    rules: &[u32],
-    given: u32,
-    ways: &mut Vec<Way>,
-) -> Result<(), NoMemory>
-    requires at { IsWaySeat table.old at }
-    requires out { IsSeatForm table.old at.seat.device.now.config out.seat.interface.now out.form }
-    requires given { given < count_of table.old }
-    requires ways { AreGiven table.old ways.old.items }
-    ensures added { OnOk result (AddsWays table.old table.new (λ h m. IsAmong (rule_from_inside at.entry.seat.device.now.config.nat) rules.now h × Makes table.old given (λ g. leave_with at.entry.wiring.now (seat_of at.entry.seat) (from_inside at.entry.seat.device.now.config.nat g) (next_address next g) (seat_of out.entry.seat)) h m) ways.old.items ways.new.items) }
-    ensures kept { Keeps table.old table.new }
-{
-    for rule in rules {
-        add_rule(alloc, table, at, out, next, *rule, given, ways)?;
-    }
-    Ok(())
-}
-
-fn add_rule(
-    alloc: Global,
-    table: &mut Diagrams,
-    at: WaySeat,
-    out: FormedSeat,
-    next: Next,
-    rule: u32,
-    given: u32,
-    ways: &mut Vec<Way>,
-) -> Result<(), NoMemory>
-    requires at { IsWaySeat table.old at }
-    requires out { IsSeatForm table.old at.seat.device.now.config out.seat.interface.now out.form }
-    requires given { given < count_of table.old }
-    requires ways { AreGiven table.old ways.old.items }
-    ensures added { OnOk result (AddsWays table.old table.new (λ h m. (rule_from_inside at.entry.seat.device.now.config.nat h ≡ Some rule) × Makes table.old given (λ g. leave_with at.entry.wiring.now (seat_of at.entry.seat) (from_inside at.entry.seat.device.now.config.nat g) (next_address next g) (seat_of out.entry.seat)) h m) ways.old.items ways.new.items) }
-    ensures kept { Keeps table.old table.new }
-{
-    let part = where_value(table, at.device.inside, rule, given)?;
-    add_outer(alloc, table, at, out, next, Some(rule), part, ways)?;
-    Ok(())
-}
-
-// Of the given headers, to all of which this port or plain rule applies, or none: by each outer rule those to which it
-// applies, and the others. All is asked of the headers as they come from the lookup.
-fn add_outer(
-    alloc: Global,
-    table: &mut Diagrams,
-    at: WaySeat,
-    out: FormedSeat,
-    next: Next,
-    rule: Option<u32>,
-    given: u32,
-    ways: &mut Vec<Way>,
-) -> Result<(), NoMemory>
-    requires at { IsWaySeat table.old at }
-    requires out { IsSeatForm table.old at.seat.device.now.config out.seat.interface.now out.form }
-    requires given { given < count_of table.old }
-    requires rule { (h : Header) → IsHeader h → InSet table.old given h → rule_from_inside at.seat.device.now.config.nat h ≡ rule }
-    requires ways { AreGiven table.old ways.old.items }
-    ensures added { OnOk result (AddsWays table.old table.new (Makes table.old given (λ h. leave_with at.entry.wiring.now (seat_of at.entry.seat) (from_inside at.entry.seat.device.now.config.nat h) (next_address next h) (seat_of out.entry.seat))) ways.old.items ways.new.items) }
-    ensures kept { Keeps table.old table.new }
-{
-    let outers = table.values_on(alloc, at.device.outer_inside, &Cube::all())?;
-    add_outer_rules(
-        alloc,
-        table,
-        at,
-        out,
-        next,
-        rule,
-        outers.as_slice(),
-        given,
-        ways,
-    )?;
-    let rest = without(table, given, at.device.outer_inside)?;
-    let stamp = inside_stamp(at.seat.device.config.nat.as_slice(), rule, None);
-    add_passed(alloc, table, at, out, next, rest, stamp, ways)?;
-    Ok(())
-}
-
-fn add_outer_rules(
-    alloc: Global,
-    table: &mut Diagrams,
-    at: WaySeat,
-    out: FormedSeat,
-    next: Next,
-    rule: Option<u32>,
-    outers: &[u32],
-    given: u32,
-    ways: &mut Vec<Way>,
-) -> Result<(), NoMemory>
-    requires at { IsWaySeat table.old at }
-    requires out { IsSeatForm table.old at.seat.device.now.config out.seat.interface.now out.form }
-    requires given { given < count_of table.old }
-    requires rule { (h : Header) → IsHeader h → InSet table.old given h → rule_from_inside at.seat.device.now.config.nat h ≡ rule }
-    requires ways { AreGiven table.old ways.old.items }
-    ensures added { OnOk result (AddsWays table.old table.new (λ h m. IsAmong (outer_from_inside at.entry.seat.device.now.config.nat) outers.now h × Makes table.old given (λ g. leave_with at.entry.wiring.now (seat_of at.entry.seat) (from_inside at.entry.seat.device.now.config.nat g) (next_address next g) (seat_of out.entry.seat)) h m) ways.old.items ways.new.items) }
-    ensures kept { Keeps table.old table.new }
-{
-    for outer in outers {
-        add_outer_rule(alloc, table, at, out, next, rule, *outer, given, ways)?;
-    }
-    Ok(())
-}
-
-fn add_outer_rule(
-    alloc: Global,
-    table: &mut Diagrams,
-    at: WaySeat,
-    out: FormedSeat,
-    next: Next,
-    rule: Option<u32>,
-    outer: u32,
-    given: u32,
-    ways: &mut Vec<Way>,
-) -> Result<(), NoMemory>
-    requires at { IsWaySeat table.old at }
-    requires out { IsSeatForm table.old at.seat.device.now.config out.seat.interface.now out.form }
-    requires given { given < count_of table.old }
-    requires rule { (h : Header) → IsHeader h → InSet table.old given h → rule_from_inside at.seat.device.now.config.nat h ≡ rule }
-    requires ways { AreGiven table.old ways.old.items }
-    ensures added { OnOk result (AddsWays table.old table.new (λ h m. (outer_from_inside at.entry.seat.device.now.config.nat h ≡ Some outer) × Makes table.old given (λ g. leave_with at.entry.wiring.now (seat_of at.entry.seat) (from_inside at.entry.seat.device.now.config.nat g) (next_address next g) (seat_of out.entry.seat)) h m) ways.old.items ways.new.items) }
-    ensures kept { Keeps table.old table.new }
-{
-    let part = where_value(table, at.device.outer_inside, outer, given)?;
-    let stamp = inside_stamp(at.seat.device.config.nat.as_slice(), rule, Some(outer));
-    add_passed(alloc, table, at, out, next, part, stamp, ways)?;
     Ok(())
 }
 
@@ -278,28 +152,26 @@ fn add_outer_rule(
 fn add_passed(
     alloc: Global,
     table: &mut Diagrams,
-    at: WaySeat,
-    out: FormedSeat,
-    next: Next,
+    leaving: Leaving,
     given: u32,
     stamp: Stamp,
     ways: &mut Vec<Way>,
 ) -> Result<(), NoMemory>
-    requires out { IsSeatForm table.old at.seat.device.now.config out.seat.interface.now out.form }
+    requires out { IsOut table.old leaving }
     requires given { given < count_of table.old }
     requires stamp { IsStamp stamp }
     requires ways { AreGiven table.old ways.old.items }
-    ensures added { OnOk result (AddsWays table.old table.new (Makes table.old given (λ h. leave_with at.entry.wiring.now (seat_of at.entry.seat) (applied stamp h) (next_address next h) (seat_of out.entry.seat))) ways.old.items ways.new.items) }
+    ensures added { OnOk result (AddsWays table.old table.new (Makes table.old given (λ h. leaves leaving.entry h (applied stamp h))) ways.old.items ways.new.items) }
     ensures kept { Keeps table.old table.new }
 {
-    let passed = where_value_after(alloc, table, out.form.output, 1, &stamp, given)?;
+    let passed = where_value_after(alloc, table, leaving.out.form.output, 1, &stamp, given)?;
     let lost = without(table, given, passed)?;
     join_way(table, ways, Step::Lost, lost)?;
     let link = Link {
-        wiring: at.wiring,
-        place: out.seat.place,
+        wiring: leaving.at.wiring,
+        place: leaving.out.seat.place,
         stamp,
     };
-    add_sent(alloc, table, link, next, passed, ways)?;
+    add_sent(alloc, table, link, leaving.next, passed, ways)?;
     Ok(())
 }

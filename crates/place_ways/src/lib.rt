@@ -14,6 +14,7 @@ mod base;
 mod forward;
 mod leave;
 mod link;
+mod parts;
 mod ranges;
 mod seat;
 mod sets;

@@ -2,14 +2,14 @@
 
 ghost use Rattle.std.specs.Prelude.{◌≡◌, ◌<◌, ℕ, Contains, OnOk};
 ghost use Rattle.hdr_bits.specs.declared.header.Header.{Header};
-ghost use Rattle.hdr_bits.specs.HeaderBits.{number, IsHeader};
+ghost use Rattle.hdr_bits.specs.HeaderBits.{IsHeader};
 ghost use Rattle.cube_alg.specs.Stamps.{applied};
-ghost use Rattle.cube_diagram.specs.Functions.{Keeps, count_of, value_at};
+ghost use Rattle.cube_diagram.specs.Functions.{Keeps, count_of};
 ghost use Rattle.link_sends.specs.Sending.{next_address, sent_move};
 ghost use Rattle.net_types.specs.Moves.{send};
 ghost use Rattle.net_types.specs.World.{segment_of};
 ghost use Rattle.set_walk.specs.Ways.{IsStamp};
-ghost use Rattle.place_ways.specs.Adding.{AddsWays, AreGiven, HasValue, IsAmong, Makes, TellsAddresses, stamped_step};
+ghost use Rattle.place_ways.specs.Adding.{AddsWays, AreGiven, ByOne, HasValue, Makes, TellsAddresses, stamped_step};
 
 use crate::add::join_way;
 use crate::addresses::destination_among;
@@ -142,7 +142,7 @@ fn add_listed(
     requires given { given < count_of table.old }
     requires stamp { IsStamp link.stamp }
     requires ways { AreGiven table.old ways.old.items }
-    ensures added { OnOk result (AddsWays table.old table.new (λ h m. IsAmong (λ g. value_at table.old function (number g)) addresses.now h × Makes table.old given (λ h. send link.entry.wiring.now link.entry.place h.dst (applied link.entry.stamp h) (segment_of link.entry.wiring.now link.entry.place)) h m) ways.old.items ways.new.items) }
+    ensures added { OnOk result (AddsWays table.old table.new (λ h m. ByOne (λ a. HasValue table.old function a h × Makes table.old given (λ h. send link.entry.wiring.now link.entry.place h.dst (applied link.entry.stamp h) (segment_of link.entry.wiring.now link.entry.place)) h m) addresses.now) ways.old.items ways.new.items) }
     ensures kept { Keeps table.old table.new }
 {
     for address in addresses {

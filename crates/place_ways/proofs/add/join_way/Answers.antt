@@ -3,7 +3,8 @@ use Rattle.std.proofs.lemmas.Option.{slice_get_within}
 use Rattle.cube_diagram.specs.Functions.{count_of}
 use Rattle.set_walk.specs.declared.step.Way.{Way}
 use Rattle.set_walk.specs.Sets.{InSet, IsSetOf}
-use Rattle.place_ways.proofs.AddLemmas.{joined, in_get, get_is, at_list}
+use Rattle.set_walk.proofs.ToldLemmas.{at_list, get_is, in_get}
+use Rattle.place_ways.proofs.AddLemmas.{joined}
 use Rattle.place_ways.proofs.add.join_way.Goals as goal
 
 pub either-requires-clause-first : goal.either-requires-clause-first
@@ -29,4 +30,4 @@ returns-clause-added c =
     let x : Way = record { step = c.args.step; headers = c.in-Some.ensures.0 } in
     let e = at_list _ xs i x c.deref.ensures.value c.in-Some.ensures.1 in
     let same = c.index.ensures ∙ get_is xs i x c.index.result.now e in
-    joined f c.either.new.table xs i c.in-Some.ensures.0 c.args.headers c.in_ok-all.all c.args.step c.in_ok-all.ensures.kept e c.requires.headers c.in_ok-all.ensures.below (subst (λ (y : Way). IsSetOf c.either.new.table c.in_ok-all.all (λ h. InSet f y.headers h ⊎ InSet f c.args.headers h)) same c.in_ok-all.ensures.exact) c.requires.fits c.requires.ways
+    joined f c.either.new.table xs i c.in-Some.ensures.0 c.args.headers c.in_ok-all.all c.args.step c.in_ok-all.ensures.kept e c.in_ok-all.ensures.below (subst (λ (y : Way). IsSetOf c.either.new.table c.in_ok-all.all (λ h. InSet f y.headers h ⊎ InSet f c.args.headers h)) same c.in_ok-all.ensures.exact) c.requires.fits c.requires.ways

@@ -7,9 +7,10 @@ use Rattle.net_types.specs.Moves.{moves_in, moves_at, coming_in, list_named, pas
 use Rattle.net_types.specs.Routes.{is_enabled}
 use Rattle.net_view.specs.Borrowed.{seat_of}
 use Rattle.place_ways.proofs.SetLemmas.{keeps_then, kept_below, kept_set}
-use Rattle.place_ways.proofs.AddLemmas.{given_kept, moves_kept}
+use Rattle.place_ways.proofs.AddLemmas.{given_kept}
 use Rattle.place_ways.proofs.FateLemmas.{at_kept}
 use Rattle.place_ways.proofs.ArriveLemmas.{let_in_added, shut_added, same_lists, opened, closed}
+use Rattle.place_ways.proofs.BaseLemmas.{ways_in_kept}
 use Rattle.place_ways.proofs.arrive.add_arrivals.Goals as goal
 
 pub returns-then-not-is_enabled-clause-added : goal.returns-then-not-is_enabled-clause-added
@@ -36,19 +37,12 @@ add_let_in-requires-clause-at c =
     let d2 = c.without.new.table in
     at_kept d0 d2 c.args.at (keeps_then d0 d1 d2 c.in_ok-passed.ensures.kept c.in_ok-denied.ensures.kept) c.requires.at
 
-pub add_let_in-requires-clause-base_given : goal.add_let_in-requires-clause-base_given
-add_let_in-requires-clause-base_given c =
-    let d0 = c.args.table.now in
-    let d1 = c.where_value.new.table in
-    let d2 = c.without.new.table in
-    given_kept d0 d2 c.args.base.now (keeps_then d0 d1 d2 c.in_ok-passed.ensures.kept c.in_ok-denied.ensures.kept) c.requires.base_given
-
 pub add_let_in-requires-clause-base : goal.add_let_in-requires-clause-base
 add_let_in-requires-clause-base c =
     let d0 = c.args.table.now in
     let d1 = c.where_value.new.table in
     let d2 = c.without.new.table in
-    moves_kept d0 d2 c.args.at.scope (moves_in c.args.at.wiring.now (seat_of c.args.at.seat)) c.args.base.now (keeps_then d0 d1 d2 c.in_ok-passed.ensures.kept c.in_ok-denied.ensures.kept) c.requires.at.scope c.requires.base_given c.requires.base
+    ways_in_kept d0 d2 c.args.at c.args.base.now (keeps_then d0 d1 d2 c.in_ok-passed.ensures.kept c.in_ok-denied.ensures.kept) c.requires.at.scope c.requires.base
 
 pub returns-clause-added : goal.returns-clause-added
 returns-clause-added c =

@@ -3,10 +3,11 @@ use Rattle.std.proofs.lemmas.List.{get_or_default}
 use Rattle.set_walk.specs.declared.step.Way.{Way}
 use Rattle.set_walk.specs.declared.step.Step.TheVariants.{Drop}
 use Rattle.set_walk.specs.Ways.{IsStamp, OfStamp}
+use Rattle.set_walk.proofs.StampLemmas.{since_fits}
+use Rattle.set_walk.proofs.ToldLemmas.{item_among}
 use Rattle.place_ways.specs.Adding.{AddsWays, MakesBehind}
 use Rattle.place_ways.proofs.SetLemmas.{keeps_same, keeps_then, kept_below}
-use Rattle.place_ways.proofs.AddLemmas.{given_kept, item_among}
-use Rattle.place_ways.proofs.StampLemmas.{after_fits}
+use Rattle.place_ways.proofs.AddLemmas.{given_kept}
 use Rattle.place_ways.proofs.ArriveLemmas.{nothing_behind, behind_none, behind_more}
 use Rattle.place_ways.proofs.arrive.add_behind.Goals as goal
 
@@ -38,7 +39,7 @@ add_way-requires-clause-fits c =
     let i = c.loop-way.way-index in
     let w : Way = get_or xs i (record { step = Drop; headers = 0 }) in
     let e = get_or_default xs i (record { step = Drop; headers = 0 }) w c.loop-way-test.true in
-    subst (OfStamp IsStamp) (sym c.after.ensures) (after_fits c.args.stamp w.step c.requires.stamp (c.requires.base_given w (item_among c.args.base.now c.loop-way.way-index w c.loop-way-test.true e)).fits)
+    subst (OfStamp IsStamp) (sym c.since.ensures) (since_fits c.args.stamp w.step c.requires.stamp (c.requires.base_given w (item_among c.args.base.now c.loop-way.way-index w c.loop-way-test.true e)).fits)
 
 pub add_way-requires-clause-ways : goal.add_way-requires-clause-ways
 add_way-requires-clause-ways c =
@@ -59,7 +60,7 @@ loop-way-preserved c =
     let s = c.in_ok-headers in
     record {
       kept = keeps_then f g0 g2 c.loop-way.invariant.kept (keeps_then g0 g1 g2 b.ensures.kept s.ensures.kept);
-      added = behind_more f g0 g1 g2 c.args.given b.before s.headers c.args.stamp c.args.base.now c.loop-way.way-index w c.after.result c.args.ways.now.items c.loop-way.ways.items c.add_way.new.ways.items c.requires.stamp c.loop-way.invariant.kept b.ensures.kept s.ensures.kept c.requires.given (c.requires.base_given w among).below c.loop-way-test.true e c.after.ensures b.ensures.exact s.ensures.exact c.loop-way.invariant.added c.in_ok-add_way.ensures;
+      added = behind_more f g0 g1 g2 c.args.given b.before s.headers c.args.stamp c.args.base.now c.loop-way.way-index w c.since.result c.args.ways.now.items c.loop-way.ways.items c.add_way.new.ways.items c.requires.stamp c.loop-way.invariant.kept b.ensures.kept s.ensures.kept c.requires.given (c.requires.base_given w among).below c.loop-way-test.true e c.since.ensures b.ensures.exact s.ensures.exact c.loop-way.invariant.added c.in_ok-add_way.ensures;
     }
 
 pub returns-clause-added : goal.returns-clause-added

@@ -1,19 +1,45 @@
-use Rattle.std.proofs.Common.{◌≡◌, false, sym, ◌∙◌}
-use Rattle.std.specs.Prelude.{◌&&◌}
-use Rattle.net_types.specs.Moves.{is_inside, is_outside}
+use Rattle.std.proofs.Common.{◌≡◌, if◌then◌else◌, subst, sym}
+use Rattle.net_forms.proofs.FormLemmas.{seat_kept}
+use Rattle.net_types.specs.Moves.{going_out}
+use Rattle.net_types.specs.Translation.{from_inside}
 use Rattle.net_view.specs.Borrowed.{seat_of}
-use Rattle.place_ways.proofs.LeaveLemmas.{not_first, not_second, untranslated_out}
+use Rattle.set_walk.specs.Sets.{InSet}
+use Rattle.place_ways.specs.Adding.{AddsWays}
+use Rattle.place_ways.specs.Leaving.{LeavesByOne, leaves}
+use Rattle.place_ways.specs.Parts.{AreParts, AreStamped}
+use Rattle.place_ways.proofs.SetLemmas.{keeps_then}
+use Rattle.place_ways.proofs.AddLemmas.{given_kept}
+use Rattle.place_ways.proofs.PartLemmas.{by_parts, stamped}
 use Rattle.place_ways.proofs.leave.add_out.Goals as goal
-use Rattle.place_ways.proofs.leave.add_out.Goals.{else-is_inside-via-then-is_inside+else-is_outside, else-is_inside-via-else-is_inside}
+
+pub parts_of-requires-clause-translation : goal.parts_of-requires-clause-translation
+parts_of-requires-clause-translation c =
+    let d = c.requires.at.device in
+    record { rule_below = d.inside_below; rule = d.inside; outer_below = d.outer_inside_below; outer = d.outer_inside }
+
+pub add_parts-requires-clause-out : goal.add_parts-requires-clause-out
+add_parts-requires-clause-out c =
+    let l = c.args.leaving in
+    seat_kept c.args.table.now c.parts_of.new.table l.at.seat.device.now.config l.out.seat.interface.now l.out.form c.in_ok-parts.ensures.kept c.requires.out
+
+pub add_parts-requires-clause-parts : goal.add_parts-requires-clause-parts
+add_parts-requires-clause-parts c =
+    subst (AreStamped c.parts_of.new.table) (sym c.deref.ensures.value) (stamped _ c.parts_of.new.table _ c.in_ok-parts.parts.items c.in_ok-parts.ensures.parts)
+
+pub add_parts-requires-clause-ways : goal.add_parts-requires-clause-ways
+add_parts-requires-clause-ways c = given_kept c.args.table.now c.parts_of.new.table c.args.ways.now.items c.in_ok-parts.ensures.kept c.requires.ways
 
 pub returns-clause-added : goal.returns-clause-added
 returns-clause-added c =
-    let s = c.args.at in
-    let out = c.args.out in
-    let from = is_inside s.seat.interface.now.side in
-    let to = is_outside out.seat.interface.now.side in
-    let untranslated : (from && to) ≡ false = elim c.else-is_inside.branch [
-      | else-is_inside-via-then-is_inside+else-is_outside w ↦ not_second from to (sym w.is_outside.ensures ∙ w.if-is_outside.false)
-      | else-is_inside-via-else-is_inside w ↦ not_first from to (sym c.is_inside.ensures ∙ w.if-is_inside.false)
-    ] in
-    untranslated_out s.wiring.now (seat_of s.seat) (seat_of out.seat) c.args.table.now c.add_passed.new.table c.args.given c.args.next c.none.result c.args.ways.now.items c.add_passed.new.ways.items c.none.ensures untranslated c.in_ok-add_passed.ensures.added
+    let l = c.args.leaving in
+    let seat = seat_of l.at.seat in
+    let out = seat_of l.out.seat in
+    let f = c.args.table.now in
+    let g = c.parts_of.new.table in
+    let k = c.add_parts.new.table in
+    let parts = c.in_ok-parts.parts.items in
+    let go : AreParts g (InSet f c.args.given) (going_out seat out) parts = subst (λ b. AreParts g (InSet f c.args.given) (λ h. if b then from_inside seat.device.config.nat h else h) parts) c.goes_outside-translated.ensures c.in_ok-parts.ensures.parts in
+    by_parts (going_out seat out) f g k c.args.given parts (λ h q m. leaves l h q ≡ m) c.args.ways.now.items c.add_parts.new.ways.items c.in_ok-parts.ensures.kept c.requires.ways go (subst (λ ps. AddsWays g k (LeavesByOne g ps l) c.args.ways.now.items c.add_parts.new.ways.items) c.deref.ensures.value c.in_ok-add_parts.ensures.added)
+
+pub returns-clause-kept : goal.returns-clause-kept
+returns-clause-kept c = keeps_then c.args.table.now c.parts_of.new.table c.add_parts.new.table c.in_ok-parts.ensures.kept c.in_ok-add_parts.ensures.kept
