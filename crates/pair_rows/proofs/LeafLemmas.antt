@@ -1,6 +1,6 @@
 -- What leaves give the headers of a slot, and the pieces that are made of them.
-use Rattle.std.proofs.Common.{◌≡◌, ◌≢◌, ◌⊎◌, inl, inr, ℕ, zero, suc, ◌^◌, ◌<◌, ◌≤◌, Bool, true, false, cond, ◌==◌, List, [], ◌∷◌, ◌++◌, length, get_or, Option, Some, None, IsSome, All, Any, slice_get, slice_set, refl, sym, ap, subst, ◌∙◌, arith, true≢false}
-use Rattle.std.specs.Prelude.{is_some, ◌&&◌}
+use Rattle.std.proofs.Common.{◌≡◌, ◌≢◌, ◌⊎◌, inl, inr, ℕ, zero, suc, ◌^◌, ◌<◌, ◌≤◌, Bool, true, false, cond, ◌==◌, List, [], ◌∷◌, ◌++◌, ◌+◌, drop, length, get_or, Option, Some, None, IsSome, All, Any, slice_get, slice_set, refl, sym, ap, subst, ◌∙◌, add-one, arith, true≢false}
+use Rattle.std.specs.Prelude.{is_some, ◌&&◌, slice_index_or}
 use Rattle.std.specs.Option.{option_or}
 use Rattle.std.proofs.lemmas.Bool.{eqb-true, eq-eqb}
 use Rattle.std.proofs.lemmas.Bool.Decides.{eqb_tells}
@@ -18,7 +18,9 @@ use Rattle.task_board.specs.Regions.{Holds}
 use Rattle.task_board.specs.Stands.{Answers, IsRight}
 use Rattle.pair_rows.specs.Pairs.{Pair, IsNumberOf}
 use Rattle.pair_rows.specs.Slots.{leaf_value, ArePieces, AreSorted}
+use Rattle.pair_rows.specs.declared.leaves.MadeRows.{MadeRows}
 use Rattle.pair_rows.specs.declared.leaves.SlotPieces.{SlotPieces}
+use Rattle.pair_rows.specs.declared.leaves.SlotRows.{SlotRows}
 use Rattle.pair_rows.proofs.RowLemmas.{first_number, still_number}
 
 -- ---- one more
@@ -159,3 +161,33 @@ module _ (gives : ℕ → ℕ → Option Pair) (slot h : ℕ) (below : h < 2 ^ 1
 -- the leaves give what the meaning gives
 pub leaves_give : (gives : ℕ → ℕ → Option Pair) (roots : List Region) (leaves : List (Leaf Pair)) → Answers gives roots leaves → (slot h : ℕ) → h < 2 ^ 112 → Any (Holds slot h) roots → leaf_value leaves slot h ≡ gives slot h
 leaves_give gives roots leaves a slot h below there = by_leaves gives slot h below leaves (leaf_value leaves slot h) refl a.right (a.rest slot h below there)
+
+-- ---- what is first behind the place stands at it
+drop_next : {X : Type 0} (xs : List X) (i : ℕ) (x : X) (ys : List X) → drop i xs ≡ x ∷ ys → (slice_get xs i ≡ Some x) × (drop (suc i) xs ≡ ys)
+drop_next [] zero x ys e = absurd cc
+drop_next [] (suc i) x ys e = absurd cc
+drop_next (z ∷ xs) zero x ys e = (let same : z ≡ x = cc in ap Some same, (let rest : xs ≡ ys = cc in rest))
+drop_next (z ∷ xs) (suc i) x ys e = drop_next xs i x ys e
+
+pub next_there : {X : Type 0} (xs : List X) (i : ℕ) (x : X) (ys : List X) → drop i xs ≡ x ∷ ys → slice_get xs i ≡ Some x
+next_there xs i x ys e = (drop_next xs i x ys e).0
+
+pub next_rest : {X : Type 0} (xs : List X) (i : ℕ) (x : X) (ys : List X) → drop i xs ≡ x ∷ ys → ys ≡ drop (i + 1) xs
+next_rest xs i x ys e = sym (drop_next xs i x ys e).1 ∙ ap (λ (n : ℕ). drop n xs) (sym (add-one i))
+
+abbrev pub made_of : SlotRows → MadeRows
+made_of s = record { rows = Some s.rows }
+
+-- one more, whose rows are made
+pub made_more : (made : List MadeRows) (all : List SlotRows) (last : SlotRows) → slice_get made (length all) ≡ Some (made_of last) → ((k : ℕ) (s : SlotRows) → slice_get all k ≡ Some s → slice_get made k ≡ Some (made_of s)) → (k : ℕ) (s : SlotRows) → slice_get (all ++ last ∷ []) k ≡ Some s → slice_get made k ≡ Some (made_of s)
+made_more made all last here before k s at =
+    elim (last_or_before all last s k at) [
+      | inl q ↦ before k s q
+      | inr q ↦ subst (λ (n : ℕ). slice_get made n ≡ Some (made_of s)) (sym q.0) (subst (λ (r : SlotRows). slice_get made (length all) ≡ Some (made_of r)) q.1 here)
+    ]
+
+-- what stands at the place is read there
+pub index_there : {A : Type 0} (xs : List A) (n : ℕ) (x d : A) → slice_get xs n ≡ Some x → slice_index_or xs n d ≡ x
+index_there [] n x d e = absurd cc
+index_there (y ∷ xs) zero x d e = cc
+index_there (y ∷ xs) (suc n) x d e = index_there xs n x d e

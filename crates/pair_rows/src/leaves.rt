@@ -1,12 +1,13 @@
 //! From leaves to the rows of each slot.
 
-ghost use Rattle.std.specs.Prelude.{◌≡◌, ℕ, List, [], ◌∷◌, ◌++◌, IfOk, OnOk, Some, length, slice_get};
+ghost use Rattle.std.specs.Prelude.{◌≡◌, ◌≤◌, ◌<◌, ℕ, List, [], ◌∷◌, ◌++◌, IfOk, IfSome, OnOk, Some, length, slice_get, slice_index_or};
+ghost use Rattle.pair_rows.specs.declared.leaves.MadeRows.{MadeRows};
 ghost use Rattle.hdr_bits.specs.Lists.{Extends};
 ghost use Rattle.task_board.specs.declared.leaf.Leaf.{Leaf as Area};
 ghost use Rattle.pair_rows.specs.declared.leaves.SlotRows.{SlotRows};
 ghost use Rattle.pair_rows.specs.declared.leaves.SlotPieces.{SlotPieces};
 ghost use Rattle.pair_rows.specs.Pairs.{Pair, AreDistinct, AreRowsWithPairs};
-ghost use Rattle.pair_rows.specs.Slots.{AreSorted, leaf_value};
+ghost use Rattle.pair_rows.specs.Slots.{AreSorted, IsMade, leaf_value};
 
 use crate::label_pairs::LabelPairs;
 use crate::rows::rows_of_pieces;
@@ -14,6 +15,7 @@ use canon_rows::Piece;
 use chunk_rope::Rope;
 use net_types::{Label, NoMemory, Row};
 use std::alloc::Global;
+use std::thread::{Threads, for_each_mut};
 use task_board::Leaf;
 
 /// The rows of one slot.
@@ -28,19 +30,28 @@ pub(crate) struct SlotPieces {
     pub(crate) pieces: Vec<Piece>,
 }
 
+/// The rows of one slot, once they are made; none until then, and where there was no memory for them.
+#[derive(Drop)]
+pub(crate) struct MadeRows {
+    pub(crate) rows: Option<Vec<Row>>,
+}
+
 /// The rows of each of so many slots: in each the canonical rows of the function that gives a header the value of the
-/// first leaf of that slot that holds it.
-pub(crate) fn rows_of_leaves(
+/// first leaf of that slot that holds it. Each of the workers makes those of some slots.
+pub(crate) fn rows_of_leaves<R: Threads + Sync>(
+    rt: &R,
     alloc: Global,
     slots: usize,
     leaves: &Rope<Leaf<(Label, Label)>>,
+    workers: u32,
 ) -> Result<Vec<SlotRows>, NoMemory>
+    requires { 1 ≤ workers }
     ensures count { IfOk result (λ all. length all.items ≡ slots) }
     ensures rows { IfOk result (λ all. (k : ℕ) (s : SlotRows) → slice_get all.items k ≡ Some s → AreRowsWithPairs (leaf_value leaves.now.items k) s.rows.items) }
 {
     let mut pairs = LabelPairs::new(alloc);
     let sorted = sorted_leaves(alloc, slots, leaves, &mut pairs)?;
-    let all = rows_of_slots(alloc, &sorted, &pairs)?;
+    let all = rows_of_slots(rt, alloc, &sorted, &pairs, workers)?;
     Ok(all)
 }
 
@@ -101,19 +112,101 @@ fn add_leaf(
 }
 
 // The rows of each slot.
-fn rows_of_slots(
+fn rows_of_slots<R: Threads + Sync>(
+    rt: &R,
     alloc: Global,
     sorted: &[SlotPieces],
     pairs: &LabelPairs,
+    workers: u32,
 ) -> Result<Vec<SlotRows>, NoMemory>
-    requires { AreDistinct pairs.now }
+    requires distinct { AreDistinct pairs.now }
+    requires workers { 1 ≤ workers }
     ensures count { IfOk result (λ all. length all.items ≡ length sorted.now) }
     ensures rows { IfOk result (λ all. (leaves : List (Area Pair)) → AreSorted pairs.now leaves sorted.now → (k : ℕ) (s : SlotRows) → slice_get all.items k ≡ Some s → AreRowsWithPairs (leaf_value leaves k) s.rows.items) }
 {
-    let mut all = Vec::with_capacity(alloc, sorted.len())?;
-    for slot in sorted {
-        let rows = rows_of_pieces(alloc, &slot.pieces, pairs)?;
-        all.push(SlotRows { rows })?;
+    let slots = sorted.len();
+    let mut made = unmade(alloc, slots)?;
+    make_rows(rt, alloc, sorted, pairs, workers, &mut made);
+    let all = all_made(alloc, slots, made)?;
+    Ok(all)
+}
+
+// So many slots whose rows aren't made.
+fn unmade(alloc: Global, slots: usize) -> Result<Vec<MadeRows>, NoMemory>
+    ensures { IfOk result (λ made. length made.items ≡ slots) }
+{
+    let mut made = Vec::with_capacity(alloc, slots)?;
+    for _ in 0..slots {
+        made.push(MadeRows { rows: None })?;
+    }
+    Ok(made)
+}
+
+// Makes the rows of each slot, by so many workers at most.
+fn make_rows<R: Threads + Sync>(
+    rt: &R,
+    alloc: Global,
+    sorted: &[SlotPieces],
+    pairs: &LabelPairs,
+    workers: u32,
+    made: &mut [MadeRows],
+)
+    requires distinct { AreDistinct pairs.now }
+    requires workers { 1 ≤ workers }
+    ensures count { length made.new ≡ length made.old }
+    ensures made { (k : ℕ) (d : MadeRows) → k < length made.old → IsMade pairs.now sorted.now k (slice_index_or made.new k d) }
+{
+    for_each_mut(
+        rt,
+        made,
+        workers as usize,
+        &|slot, rows| {
+            rows.rows = rows_at(alloc, sorted, slot, pairs);
+        },
+    );
+}
+
+// The rows of the slot, where there is memory for them.
+fn rows_at(
+    alloc: Global,
+    sorted: &[SlotPieces],
+    slot: usize,
+    pairs: &LabelPairs,
+) -> Option<Vec<Row>>
+    requires { AreDistinct pairs.now }
+    ensures { IfSome result (λ rows. (leaves : List (Area Pair)) → AreSorted pairs.now leaves sorted.now → AreRowsWithPairs (leaf_value leaves slot) rows.items) }
+{
+    let slot = sorted.get(slot)?;
+    match rows_of_pieces(alloc, &slot.pieces, pairs) {
+        Ok(rows) => Some(rows),
+        Err(_) => None,
+    }
+}
+
+// The rows of all slots, if those of each are made.
+fn all_made(alloc: Global, slots: usize, made: Vec<MadeRows>) -> Result<Vec<SlotRows>, NoMemory>
+    requires { length made.items ≡ slots }
+    ensures count { IfOk result (λ all. length all.items ≡ slots) }
+    ensures made { IfOk result (λ all. (k : ℕ) (s : SlotRows) → slice_get all.items k ≡ Some s → slice_get made.items k ≡ Some (record { rows = Some s.rows })) }
+{
+    let mut all = Vec::with_capacity(alloc, slots)?;
+    let mut rest = made.into_iter();
+    for _ in 0..slots {
+        let Some(slot) = rest.next() else {
+            unreachable!();
+        };
+        let slot = rows_made(slot)?;
+        all.push(slot)?;
     }
     Ok(all)
+}
+
+// The rows of a slot, if they are made.
+fn rows_made(slot: MadeRows) -> Result<SlotRows, NoMemory>
+    ensures { IfOk result (λ s. slot ≡ record { rows = Some s.rows }) }
+{
+    match slot.rows {
+        Some(rows) => Ok(SlotRows { rows }),
+        None => Err(NoMemory),
+    }
 }

@@ -49,7 +49,7 @@ pub fn rows_by_workers<
         pairing: PhantomData,
     };
     let leaves = run(rt, alloc, roots.as_slice(), splitter, workers, gate)?;
-    let all = rows_of_leaves(alloc, slots, &leaves)?;
+    let all = rows_of_leaves(rt, alloc, slots, &leaves, workers)?;
     Ok(all)
 }
 
