@@ -1,4 +1,3 @@
 pub mod RowLemmas
 pub mod IngressLemmas
 pub mod SectionLemmas
-pub mod TwinLemmas

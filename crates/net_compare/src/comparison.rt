@@ -1,14 +1,13 @@
 //! The report on two networks.
 
-ghost use Rattle.std.specs.Prelude.{◌≡◌, ◌<◌, ◌≤◌, ◌^◌, ℕ, All, IfOk, IfSome, Some, length, slice_get};
+ghost use Rattle.std.specs.Prelude.{◌≡◌, ◌<◌, ◌≤◌, ◌^◌, ℕ, All, IfOk, IfSome, Some, length};
 ghost use Rattle.like_devices.specs.Like.{IsLike};
 ghost use Rattle.net_forms.specs.Networks.{IsNetworkForm};
 ghost use Rattle.net_forms.specs.Pairs.{ArePreparedParts};
 ghost use Rattle.net_types.specs.Report.{IsReport};
 ghost use Rattle.net_types.specs.World.{World};
 ghost use Rattle.pair_rows.specs.declared.leaves.SlotRows.{SlotRows};
-ghost use Rattle.pair_rows.specs.Pairs.{AreRowsWithPairs};
-ghost use Rattle.net_compare.specs.Slots.{affected_in};
+ghost use Rattle.net_compare.specs.Slots.{AreRowsOfSlots, affected_in};
 ghost use Rattle.net_view.specs.Borrowed.{world_of};
 ghost use Rattle.set_walk.specs.Nets.{IsNet};
 ghost use Rattle.set_walk.specs.Scopes.{AreAlikeBeyond};
@@ -18,6 +17,7 @@ ghost use Rattle.indexmap.specs.IndexMap.{get};
 ghost use Rattle.net_types.specs.World.{same_place};
 ghost use Rattle.net_compare.specs.Networks.{world};
 
+use crate::compared::Compared;
 use crate::source::Ingresses;
 use crate::twin::{Base, Twins};
 use change_scope::scope_of;
@@ -36,9 +36,6 @@ use std::marker::Brand;
 use std::sync::Wait;
 use std::thread::Threads;
 use steal_pool::Gate;
-
-/// From fewer ingresses one worker walks alone: a copy of the table for each worker would cost more than the walks do.
-const FEW_INGRESSES: usize = 16;
 
 /// The scope of a change, with the ways of all places of both networks for its headers.
 #[derive(Drop)]
@@ -216,7 +213,7 @@ fn sections_by<G: Gate + Sync, R: Threads + Wait + Sync>(
     Ok(sections)
 }
 
-// The sections of the ingresses, in their order. One worker walks in the table itself, and so it does from few ingresses.
+// The sections of the ingresses, in their order. What each header is given in each slot is named for it by a type.
 fn sections_at<G: Gate + Sync, R: Threads + Wait + Sync>(
     rt: &R,
     alloc: Global,
@@ -239,99 +236,15 @@ fn sections_at<G: Gate + Sync, R: Threads + Wait + Sync>(
     requires workers { (1 ≤ workers) × (workers ≤ 64) }
     ensures { IfOk result (λ sections. IsReport ingress.now (world_of old.now.world) (world_of new.now.world) ttl sections.items) }
 {
-    if workers == 1 || ingress.len() < FEW_INGRESSES {
-        return sections_alone(rt, alloc, table, old, new, reach, ttl, ingress, gate);
-    }
-    sections_shared(
-        rt, alloc, &table, old, new, reach, ttl, ingress, workers, gate,
-    )
-}
-
-// By one worker. What each header is given in each slot is named for it by a type.
-fn sections_alone<G: Gate + Sync, R: Threads + Wait + Sync>(
-    rt: &R,
-    alloc: Global,
-    table: Diagrams,
-    old: &Net,
-    new: &Net,
-    reach: &Reach,
-    ttl: u8,
-    ingress: &[Place],
-    gate: &G,
-) -> Result<Vec<Section>, NoMemory>
-    requires old { IsNet table old.now }
-    requires new { IsNet table new.now }
-    requires scope { old.now.scope ≡ new.now.scope }
-    requires reach { IsReach (world_of old.now.world) (world_of new.now.world) table old.now.scope reach.now }
-    requires beyond { AreAlikeBeyond (world_of old.now.world) (world_of new.now.world) table old.now.scope }
-    requires ttl { 1 ≤ ttl }
-    requires few { length ingress.now < 2 ^ 32 }
-    ensures { IfOk result (λ sections. IsReport ingress.now (world_of old.now.world) (world_of new.now.world) ttl sections.items) }
-{
-    sections_in_one::<Brand, G, R>(rt, alloc, table, old, new, reach, ttl, ingress, gate)
-}
-
-fn sections_in_one<K: Pairing + Base + Send + Sync, G: Gate + Sync, R: Threads + Wait + Sync>(
-    rt: &R,
-    alloc: Global,
-    table: Diagrams,
-    old: &Net,
-    new: &Net,
-    reach: &Reach,
-    ttl: u8,
-    ingress: &[Place],
-    gate: &G,
-) -> Result<Vec<Section>, NoMemory>
-    requires old { IsNet table old.now }
-    requires new { IsNet table new.now }
-    requires scope { old.now.scope ≡ new.now.scope }
-    requires reach { IsReach (world_of old.now.world) (world_of new.now.world) table old.now.scope reach.now }
-    requires beyond { AreAlikeBeyond (world_of old.now.world) (world_of new.now.world) table old.now.scope }
-    requires ttl { 1 ≤ ttl }
-    requires few { length ingress.now < 2 ^ 32 }
-    requires base { K.base ≡ table }
-    requires gives { K.gives ≡ affected_in (world_of old.now.world) (world_of new.now.world) ttl ingress.now }
-    ensures { IfOk result (λ sections. IsReport ingress.now (world_of old.now.world) (world_of new.now.world) ttl sections.items) }
-{
-    let twins: Twins<K> = Twins::of(alloc, table)?;
-    let sections = sections_in(
-        rt, alloc, None, &twins, old, new, reach, ttl, ingress, 1, gate,
-    )?;
-    Ok(sections)
-}
-
-// By several workers, each in a copy of the table.
-fn sections_shared<G: Gate + Sync, R: Threads + Wait + Sync>(
-    rt: &R,
-    alloc: Global,
-    table: &Diagrams,
-    old: &Net,
-    new: &Net,
-    reach: &Reach,
-    ttl: u8,
-    ingress: &[Place],
-    workers: u32,
-    gate: &G,
-) -> Result<Vec<Section>, NoMemory>
-    requires old { IsNet table.now old.now }
-    requires new { IsNet table.now new.now }
-    requires scope { old.now.scope ≡ new.now.scope }
-    requires reach { IsReach (world_of old.now.world) (world_of new.now.world) table.now old.now.scope reach.now }
-    requires beyond { AreAlikeBeyond (world_of old.now.world) (world_of new.now.world) table.now old.now.scope }
-    requires ttl { 1 ≤ ttl }
-    requires few { length ingress.now < 2 ^ 32 }
-    requires workers { (1 ≤ workers) × (workers ≤ 64) }
-    ensures { IfOk result (λ sections. IsReport ingress.now (world_of old.now.world) (world_of new.now.world) ttl sections.items) }
-{
-    sections_in_copies::<Brand, G, R>(
+    sections_named::<Brand, G, R>(
         rt, alloc, table, old, new, reach, ttl, ingress, workers, gate,
     )
 }
 
-fn sections_in_copies<K: Pairing + Base + Send + Sync, G: Gate + Sync, R: Threads + Wait + Sync>(
+fn sections_named<K: Pairing + Base + Send + Sync, G: Gate + Sync, R: Threads + Wait + Sync>(
     rt: &R,
     alloc: Global,
-    table: &Diagrams,
+    table: Diagrams,
     old: &Net,
     new: &Net,
     reach: &Reach,
@@ -340,72 +253,99 @@ fn sections_in_copies<K: Pairing + Base + Send + Sync, G: Gate + Sync, R: Thread
     workers: u32,
     gate: &G,
 ) -> Result<Vec<Section>, NoMemory>
-    requires old { IsNet table.now old.now }
-    requires new { IsNet table.now new.now }
+    requires old { IsNet table old.now }
+    requires new { IsNet table new.now }
     requires scope { old.now.scope ≡ new.now.scope }
-    requires reach { IsReach (world_of old.now.world) (world_of new.now.world) table.now old.now.scope reach.now }
-    requires beyond { AreAlikeBeyond (world_of old.now.world) (world_of new.now.world) table.now old.now.scope }
+    requires reach { IsReach (world_of old.now.world) (world_of new.now.world) table old.now.scope reach.now }
+    requires beyond { AreAlikeBeyond (world_of old.now.world) (world_of new.now.world) table old.now.scope }
     requires ttl { 1 ≤ ttl }
     requires few { length ingress.now < 2 ^ 32 }
     requires workers { (1 ≤ workers) × (workers ≤ 64) }
-    requires base { K.base ≡ table.now }
+    requires base { K.base ≡ table }
     requires gives { K.gives ≡ affected_in (world_of old.now.world) (world_of new.now.world) ttl ingress.now }
     ensures { IfOk result (λ sections. IsReport ingress.now (world_of old.now.world) (world_of new.now.world) ttl sections.items) }
 {
-    let twins: Twins<K> = Twins::new(alloc);
-    let sections = sections_in(
-        rt,
-        alloc,
-        Some(table),
-        &twins,
-        old,
-        new,
-        reach,
-        ttl,
-        ingress,
-        workers,
-        gate,
-    )?;
+    let compared: Compared<K> = Compared::of(old, new, reach, ttl, ingress);
+    let all = rows_of(rt, alloc, table, &compared, workers, gate)?;
+    let sections = sections_of(alloc, ingress, all)?;
     Ok(sections)
 }
 
+// The rows of each ingress. One worker walks in the table itself, several in copies.
+fn rows_of<K: Pairing + Base + Send + Sync, G: Gate + Sync, R: Threads + Wait + Sync>(
+    rt: &R,
+    alloc: Global,
+    table: Diagrams,
+    compared: &Compared<K>,
+    workers: u32,
+    gate: &G,
+) -> Result<Vec<SlotRows>, NoMemory>
+    requires few { length compared.now < 2 ^ 32 }
+    requires workers { (1 ≤ workers) × (workers ≤ 64) }
+    requires base { K.base ≡ table }
+    ensures { IfOk result (λ all. AreRowsOfSlots K.gives (length compared.now) all.items) }
+{
+    if workers == 1 {
+        return rows_alone(rt, alloc, table, compared, gate);
+    }
+    rows_shared(rt, alloc, &table, compared, workers, gate)
+}
+
+fn rows_alone<K: Pairing + Base + Send + Sync, G: Gate + Sync, R: Threads + Wait + Sync>(
+    rt: &R,
+    alloc: Global,
+    table: Diagrams,
+    compared: &Compared<K>,
+    gate: &G,
+) -> Result<Vec<SlotRows>, NoMemory>
+    requires few { length compared.now < 2 ^ 32 }
+    requires base { K.base ≡ table }
+    ensures { IfOk result (λ all. AreRowsOfSlots K.gives (length compared.now) all.items) }
+{
+    let twins: Twins<K> = Twins::of(alloc, table)?;
+    let all = rows_in(rt, alloc, None, &twins, compared, 1, gate)?;
+    Ok(all)
+}
+
+fn rows_shared<K: Pairing + Base + Send + Sync, G: Gate + Sync, R: Threads + Wait + Sync>(
+    rt: &R,
+    alloc: Global,
+    table: &Diagrams,
+    compared: &Compared<K>,
+    workers: u32,
+    gate: &G,
+) -> Result<Vec<SlotRows>, NoMemory>
+    requires few { length compared.now < 2 ^ 32 }
+    requires workers { (1 ≤ workers) × (workers ≤ 64) }
+    requires base { K.base ≡ table.now }
+    ensures { IfOk result (λ all. AreRowsOfSlots K.gives (length compared.now) all.items) }
+{
+    let twins: Twins<K> = Twins::new(alloc);
+    let all = rows_in(rt, alloc, Some(table), &twins, compared, workers, gate)?;
+    Ok(all)
+}
+
 // By workers who walk in these twins of the base.
-fn sections_in<K: Pairing + Base + Send + Sync, G: Gate + Sync, R: Threads + Wait + Sync>(
+fn rows_in<K: Pairing + Base + Send + Sync, G: Gate + Sync, R: Threads + Wait + Sync>(
     rt: &R,
     alloc: Global,
     base: Option<&Diagrams>,
     twins: &Twins<K>,
-    old: &Net,
-    new: &Net,
-    reach: &Reach,
-    ttl: u8,
-    ingress: &[Place],
+    compared: &Compared<K>,
     workers: u32,
     gate: &G,
-) -> Result<Vec<Section>, NoMemory>
-    requires old { IsNet K.base old.now }
-    requires new { IsNet K.base new.now }
-    requires scope { old.now.scope ≡ new.now.scope }
-    requires reach { IsReach (world_of old.now.world) (world_of new.now.world) K.base old.now.scope reach.now }
-    requires beyond { AreAlikeBeyond (world_of old.now.world) (world_of new.now.world) K.base old.now.scope }
-    requires ttl { 1 ≤ ttl }
-    requires few { length ingress.now < 2 ^ 32 }
+) -> Result<Vec<SlotRows>, NoMemory>
+    requires few { length compared.now < 2 ^ 32 }
     requires workers { (1 ≤ workers) × (workers ≤ 64) }
     requires base { IfSome base (λ b. K.base ≡ b.now) }
-    requires gives { K.gives ≡ affected_in (world_of old.now.world) (world_of new.now.world) ttl ingress.now }
-    ensures { IfOk result (λ sections. IsReport ingress.now (world_of old.now.world) (world_of new.now.world) ttl sections.items) }
+    ensures { IfOk result (λ all. AreRowsOfSlots K.gives (length compared.now) all.items) }
 {
-    let source: Ingresses<R, K> = Ingresses::of(rt, base, twins, old, new, reach, ttl, ingress);
+    let source: Ingresses<R, K> = Ingresses::of(rt, base, twins, compared);
+    let slots = compared.count();
     let all = rows_by_workers::<Ingresses<R, K>, K, G, R>(
-        rt,
-        alloc,
-        &source,
-        ingress.len(),
-        workers,
-        gate,
+        rt, alloc, &source, slots, workers, gate,
     )?;
-    let sections = sections_of(alloc, ingress, all)?;
-    Ok(sections)
+    Ok(all)
 }
 
 // The rows of each slot as the section of its ingress.
@@ -415,7 +355,7 @@ fn sections_of(
     all: Vec<SlotRows>,
 ) -> Result<Vec<Section>, NoMemory>
     requires { length all.items ≡ length ingress.now }
-    ensures { IfOk result (λ sections. (old new : World) (t : ℕ) → ((k : ℕ) (s : SlotRows) → slice_get all.items k ≡ Some s → AreRowsWithPairs (affected_in old new t ingress.now k) s.rows.items) → IsReport ingress.now old new t sections.items) }
+    ensures { IfOk result (λ sections. (old new : World) (t : ℕ) → AreRowsOfSlots (affected_in old new t ingress.now) (length ingress.now) all.items → IsReport ingress.now old new t sections.items) }
 {
     let mut sections = Vec::new(alloc);
     let mut rest = all.into_iter();

@@ -4,7 +4,6 @@ ghost use Rattle.std.specs.Prelude.{◌≡◌, IfOk, IfSome};
 ghost use Rattle.cube_diagram.specs.Functions.{Keeps};
 
 use cube_diagram::Diagrams;
-use indexmap::IndexMap;
 use net_types::NoMemory;
 use std::alloc::Global;
 use std::marker::{Brand, Model, PhantomData};
@@ -89,7 +88,6 @@ impl<B: Base> Twins<B> {
     pub(crate) fn take<R: Wait>(
         &self,
         rt: &R,
-        alloc: Global,
         base: Option<&Diagrams>,
     ) -> Result<Diagrams, NoMemory>
         requires { IfSome base (λ b. B.base ≡ b.now) }
@@ -98,7 +96,7 @@ impl<B: Base> Twins<B> {
         match self.found(rt) {
             Some(twin) => Ok(twin.into_table()),
             None => {
-                let table = copied(alloc, base.ok_or(NoMemory)?)?;
+                let table = base.ok_or(NoMemory)?.twin()?;
                 Ok(table)
             }
         }
@@ -114,27 +112,4 @@ impl<B: Base> Twins<B> {
     {
         let _ = self.spare.lock(rt).push(Twin::of(table));
     }
-}
-
-// A table in which each number of this one stands for the same function. It grows apart.
-fn copied(alloc: Global, base: &Diagrams) -> Result<Diagrams, NoMemory>
-    ensures { IfOk result (Keeps base.now) }
-{
-    let mut own = Diagrams::new(alloc)?;
-    let mut known = IndexMap::new(alloc);
-    for number in 0..base.count() {
-        let number = short(number)?;
-        // A table has each function once, and one behind those of which it is made: so none gets another number.
-        if own.copy_from(base, number, &mut known)? != number {
-            return Err(NoMemory);
-        }
-    }
-    Ok(own)
-}
-
-// The same number in 32 bits: where they don't hold it there is no memory for a table of so many.
-fn short(number: usize) -> Result<u32, NoMemory>
-    ensures { IfOk result (λ r. r ≡ number) }
-{
-    u32::try_from(number).map_err(|_| NoMemory)
 }

@@ -17,7 +17,7 @@ loop-place-preserved c =
       rest = next_rest c.args.all.items i c.in-Some.slot (into_iter_items c.next.new.self) steps;
       sections = λ old new t rows.
           let place : Place = get_or c.args.ingress.now i (record { device = 0; interface = 0 }) in
-          let slot = rows i c.in-Some.slot (next_there c.args.all.items i c.in-Some.slot (into_iter_items c.next.new.self) steps) in
+          let slot = rows.rows i c.in-Some.slot (next_there c.args.all.items i c.in-Some.slot (into_iter_items c.next.new.self) steps) in
           let own : AreRowsWithPairs (affected old new t place) c.in-Some.slot.rows.items = subst (λ (o : Option Place). AreRowsWithPairs (affected_at old new t o) c.in-Some.slot.rows.items) (slice_get-get_or c.args.ingress.now i (record { device = 0; interface = 0 }) test) slot in
           let section : IsSection old new t place (record { place = place; rows = c.new.result }) = is_section old new t place c.in-Some.slot.rows.items c.new.result c.new.ensures own in
           rw c.in_ok-push.ensures.items (zip_more (IsSection old new t) c.args.ingress.now c.loop-place.sections.items i (record { device = 0; interface = 0 }) (record { place = place; rows = c.new.result }) test (c.loop-place.invariant.sections old new t rows) section);

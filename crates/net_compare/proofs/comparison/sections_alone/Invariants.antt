@@ -1,9 +1,0 @@
-use Rattle.net_view.specs.Borrowed.{world_of}
-use Rattle.net_compare.specs.Slots.{affected_in}
-use Rattle.net_compare.proofs.comparison.sections_alone.Given as goal
-
-abbrev pub ghosts-sections_in_one-K-Pairing : goal.ghosts-sections_in_one-K-Pairing
-ghosts-sections_in_one-K-Pairing g a = record { gives = affected_in (world_of a.old.now.world) (world_of a.new.now.world) a.ttl a.ingress.now }
-
-abbrev pub ghosts-sections_in_one-K-Base : goal.ghosts-sections_in_one-K-Base
-ghosts-sections_in_one-K-Base g a = record { base = a.table }
