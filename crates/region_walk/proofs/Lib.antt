@@ -6,3 +6,5 @@ pub mod NumberLemmas
 pub mod Turns
 pub mod LoopLemmas
 pub mod SpotEquality
+pub mod ReturnLemmas
+pub mod OutcomeLemmas

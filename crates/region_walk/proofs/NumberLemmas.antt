@@ -5,7 +5,7 @@ use Rattle.std.specs.List.{AllByRecursion, cons_option}
 use Rattle.std.proofs.lemmas.List.{append_assoc, append-nil}
 use Rattle.std.proofs.lemmas.List.Elements.{Contains-append_cases, filter_map-append}
 use Rattle.std.proofs.lemmas.Option.{slice_get_within, slice_get_cases}
-use Rattle.net_types.proofs.Members.{in_none, in_flat_map}
+use Rattle.net_types.proofs.Members.{in_none, in_map, to_map, in_flat_map}
 use Rattle.transfer_rel.specs.CubeMoves.{SameSet}
 use Rattle.hdr_bits.specs.Lists.{Extends}
 use Rattle.region_walk.specs.Lists.{AddsFrom, items_at, AreNumbersOf}
@@ -58,7 +58,7 @@ module _ {A : Type 0} where
       joined (x ∷ xs) ys = let h = joined xs ys in omega (arith, h)
 
   pub adds_none : (items xs : List A) → AddsFrom items xs xs
-  adds_none items xs = record { more = []; added = sym (append-nil xs); among = λ x c. absurd (in_none x c) }
+  adds_none items xs = record { more = []; added = sym (append-nil xs); among = λ x c. absurd (in_none x c); once = λ o. o }
 
   pub adds_then : (first second both xs ys zs : List A) → ((x : A) → Contains first x → Contains both x) → ((x : A) → Contains second x → Contains both x) → AddsFrom first xs ys → AddsFrom second ys zs → AddsFrom both xs zs
   adds_then first second both xs ys zs h k a b = record {
@@ -68,6 +68,7 @@ module _ {A : Type 0} where
       | inl e ↦ h x (a.among x e)
       | inr e ↦ k x (b.among x e)
     ];
+    once = λ o. b.once (a.once o);
   }
 
   pub adds_keep : (P : A → Type 0) (items xs ys : List A) → AddsFrom items xs ys → AllByRecursion P items → AllByRecursion P xs → AllByRecursion P ys
@@ -152,15 +153,27 @@ module _ {A B : Type 0} where
   ]
 
 module _ {A : Type 0} where
+  -- what holds of each item holds of one that is looked up
+  pub all_got : (P : A → Type 0) (vs : List A) (n : ℕ) (v : A) → AllByRecursion P vs → slice_get vs n ≡ Some v → P v
+  all_got P [] n v a e = cc
+  all_got P (x ∷ vs) zero v a e = let g : x ≡ v = cc in subst P g a.0
+  all_got P (x ∷ vs) (suc n) v a e = all_got P vs n v a.1 e
+
   -- what holds of items holds of those with some numbers
   pub items_all : (P : A → Type 0) (vs : List A) (ns : List ℕ) → AllByRecursion P vs → AllByRecursion P (items_at vs ns)
   items_all P vs [] a = tt
   items_all P vs (n ∷ ns) a = elim (slice_get_cases vs n).1 [
-    | inl h ↦ subst (λ o. AllByRecursion P (cons_option o (items_at vs ns))) (sym h.2) (at vs n h.0 a h.2, items_all P vs ns a)
+    | inl h ↦ subst (λ o. AllByRecursion P (cons_option o (items_at vs ns))) (sym h.2) (all_got P vs n h.0 a h.2, items_all P vs ns a)
     | inr h ↦ subst (λ o. AllByRecursion P (cons_option o (items_at vs ns))) (sym h.1) (items_all P vs ns a)
   ]
-    where
-      at : (vs : List A) (n : ℕ) (v : A) → AllByRecursion P vs → slice_get vs n ≡ Some v → P v
-      at [] n v a e = cc
-      at (x ∷ vs) zero v a e = let g : x ≡ v = cc in subst P g a.0
-      at (x ∷ vs) (suc n) v a e = at vs n v a.1 e
+
+-- ---- items by their numbers
+
+module _ {A : Type 0} (xs : List A) (ns : List ℕ) (ys : List A) (e : AreNumbersOf xs ns ys) where
+  pub item_of : (n : ℕ) → Contains ns n → (y : A) × Contains ys y × (slice_get xs n ≡ Some y)
+  item_of n c =
+      let f = in_map Some ys (slice_get xs n) (subst (λ l. Contains l (slice_get xs n)) e (to_map (slice_get xs) ns n c)) in
+      (f.0, f.1, sym f.2)
+
+  pub number_of : (y : A) → Contains ys y → (n : ℕ) × Contains ns n × (slice_get xs n ≡ Some y)
+  number_of y c = in_map (slice_get xs) ns (Some y) (subst (λ l. Contains l (Some y)) (sym e) (to_map Some ys y c))

@@ -22,7 +22,7 @@ use Rattle.region_walk.specs.declared.spot.Spot.{Spot}
 use Rattle.region_walk.specs.declared.visit.Visit.{Visit}
 use Rattle.region_walk.specs.declared.level.Level.{Level}
 use Rattle.hdr_bits.specs.Lists.{Extends}
-use Rattle.region_walk.specs.Lists.{AddsFrom, items_at, AreNumbersOf}
+use Rattle.region_walk.specs.Lists.{AreOnce, AddsFrom, items_at, AreNumbersOf}
 use Rattle.region_walk.specs.Steps.{GrowsWith}
 use Rattle.region_walk.specs.Spots.{IsBase, IsSpot, spot_at, state_of}
 use Rattle.region_walk.specs.Visits.{IsVisit, IsLevel, AreAfter, spot_of, next_spots, next_numbers, states_at, visits_at, states_below, visit_outcomes, outcomes_below, IsGraph, AreVisited, AreDone, AreStates}
@@ -60,7 +60,7 @@ level_last : (ls : List Level) (l : Level) → states_at (ls ++ (l ∷ [])) (len
 level_last [] l = refl
 level_last (x ∷ ls) l = level_last ls l
 
-level_all : (P : ℕ → Type 0) (ls : List Level) (n : ℕ) → AllByRecursion (λ (l : Level). AllByRecursion P l.states) ls → AllByRecursion P (states_at ls n)
+pub level_all : (P : ℕ → Type 0) (ls : List Level) (n : ℕ) → AllByRecursion (λ (l : Level). AllByRecursion P l.states) ls → AllByRecursion P (states_at ls n)
 level_all P [] n a = tt
 level_all P (l ∷ ls) zero a = a.0
 level_all P (l ∷ ls) (suc n) a = level_all P ls n a.1
@@ -74,6 +74,7 @@ visited_push w c g spot spots new visits v a there one grows =
     λ i s e. subst (λ l. slice_get l i ≡ Some s) (sym grows.extends.added) (get_joined spots grows.extends.more i s e) in
     record {
       found = grows.kept;
+      once = grows.once a.once;
       each = all_push (IsVisit w c g) visits v a.each one.right;
       numbered = record {
         at = λ i u e. elim (get_push visits v i u e) [
@@ -88,9 +89,10 @@ visited_push w c g spot spots new visits v a there one grows =
       };
     }
 
-pub none_visited : (w : World) (c : Cube) (g : Header) (spots : List Spot) → AllByRecursion (IsSpot c g) spots → AreVisited w c g spots []
-none_visited w c g spots found = record {
+pub none_visited : (w : World) (c : Cube) (g : Header) (spots : List Spot) → AllByRecursion (IsSpot c g) spots → AreOnce spots → AreVisited w c g spots []
+none_visited w c g spots found once = record {
   found = found;
+  once = once;
   each = tt;
   numbered = record { at = λ i v e. absurd cc; next = tt };
 }
@@ -145,8 +147,8 @@ ended_later w c g p n (suc d) a =
     let b = ended_later w c g p n d a in
     subst (λ k. AreAfter w c g p k []) (omega arith) (next_after w c g p (n + d) [] [] (record { after = b; each = tt }) (same_refl {A = Spot} []))
 
-pub graph_at_end : (w : World) (c : Cube) (g : Header) (p : Place) (n : ℕ) (spots : List Spot) (visits : List Visit) (levels : List Level) (states : List ℕ) → IsBase c g → AreDone w c g p n visits levels → AreStates w c g p n spots states → states ≡ [] → IsGraph w c p visits levels
-graph_at_end w c g p n spots visits levels states base d a e = record {
+pub graph_at_end : (w : World) (c : Cube) (g : Header) (p : Place) (n : ℕ) (spots : List Spot) (visits : List Visit) (levels : List Level) (states : List ℕ) → IsBase c g → AreVisited w c g spots visits → AreDone w c g p n visits levels → AreStates w c g p n spots states → states ≡ [] → IsGraph w c p visits levels
+graph_at_end w c g p n spots visits levels states base v d a e = record {
   base = g;
   based = base;
   all = record {
@@ -158,6 +160,9 @@ graph_at_end w c g p n spots visits levels states base d a e = record {
           subst (λ ns. IsLevel w c g p k (items_at visits ns)) (level_none levels k (omega (arith, d.count, b))) (record { after = gone; each = tt })
     ];
   };
+  spots = spots;
+  visited = v;
+  there = d.there;
 }
   where
     lt_or_ge : (k n : ℕ) → (k < n) ⊎ (n ≤ k)
@@ -168,8 +173,8 @@ graph_at_end w c g p n spots visits levels states base d a e = record {
       | inr b ↦ inr (omega (arith, b))
     ]
 
-pub graph_of_all : (w : World) (c : Cube) (g : Header) (p : Place) (visits : List Visit) (levels : List Level) → IsBase c g → AreDone w c g p 255 visits levels → IsGraph w c p visits levels
-graph_of_all w c g p visits levels base d = record { base = g; based = base; all = d.right }
+pub graph_of_all : (w : World) (c : Cube) (g : Header) (p : Place) (spots : List Spot) (visits : List Visit) (levels : List Level) → IsBase c g → AreVisited w c g spots visits → AreDone w c g p 255 visits levels → IsGraph w c p visits levels
+graph_of_all w c g p spots visits levels base v d = record { base = g; based = base; all = d.right; spots = spots; visited = v; there = d.there }
 
 pub empty_if : {A : Type 0} (xs : List A) → length xs ≡ 0 → xs ≡ []
 empty_if [] e = refl
@@ -184,10 +189,13 @@ first_spot c g p = record {
 }
 
 module _ (w : World) (c : Cube) (g : Header) (p : Place) (spot : Spot) (is : spot ≡ spot_at p (record { src = None; dst = None; sport = None; dport = None })) (old spots : List Spot) (none : old ≡ []) (adds : AddsFrom (spot ∷ []) old spots) where
+  first_once : AreOnce spots
+  first_once = adds.once (subst AreOnce (sym none) (record { one = λ i j x a b. cc }))
+
   pub start_visited : AreVisited w c g spots []
   start_visited =
       let fit : IsSpot c g spot = subst (IsSpot c g) (sym is) (first_spot c g p) in
-      none_visited w c g spots (adds_keep (IsSpot c g) (spot ∷ []) old spots adds (fit, tt) (subst (AllByRecursion (IsSpot c g)) (sym none) tt))
+      none_visited w c g spots (adds_keep (IsSpot c g) (spot ∷ []) old spots adds (fit, tt) (subst (AllByRecursion (IsSpot c g)) (sym none) tt)) first_once
 
   pub start_states : (number : ℕ) (states : List ℕ) → slice_get spots number ≡ Some spot → states ≡ number ∷ [] → AreStates w c g p 0 spots states
   start_states number states e f =

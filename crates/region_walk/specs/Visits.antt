@@ -15,7 +15,7 @@ use Rattle.transfer_rel.specs.CubeMoves.{SameSet, move_of, OfStamp, IsStamp}
 use Rattle.region_walk.specs.declared.spot.Spot.{Spot}
 use Rattle.region_walk.specs.declared.visit.Visit.{Visit}
 use Rattle.region_walk.specs.declared.level.Level.{Level}
-use Rattle.region_walk.specs.Lists.{items_at, AreNumbersOf}
+use Rattle.region_walk.specs.Lists.{items_at, AreNumbersOf, AreOnce}
 use Rattle.region_walk.specs.Spots.{stamp_of, state_of, StampFits, IsBase, IsSpot, next_spot, outcome_of_move}
 
 -- the visit tells the moves of this header, from the start of its walk
@@ -58,11 +58,30 @@ states_at (l ∷ levels) (suc n) = states_at levels n
 abbrev pub visits_at : List Visit → List Level → ℕ → List Visit
 visits_at visits levels n = items_at visits (states_at levels n)
 
+-- each visit stands at the number of its spot, and leads to numbers of spots
+pub record IsNumbered (spots : List Spot) (visits : List Visit) : Type 0 where
+  pub at : (i : ℕ) (v : Visit) → slice_get visits i ≡ Some v → slice_get spots i ≡ Some v.spot
+  pub next : AllByRecursion (λ v. AreNumbersOf spots v.next (next_spots v)) visits
+
+-- the spots and visits so far
+pub record AreVisited (w : World) (c : Cube) (g : Header) (spots : List Spot) (visits : List Visit) : Type 0 where
+  pub found : AllByRecursion (IsSpot c g) spots
+  pub once : AreOnce spots
+  pub each : AllByRecursion (IsVisit w c g) visits
+  pub numbered : IsNumbered spots visits
+
+-- all visits of the levels are there
+abbrev pub AreThere : List Visit → List Level → Type 0
+AreThere visits levels = AllByRecursion (λ (l : Level). AllByRecursion (λ (i : ℕ). i < length visits) l.states) levels
+
 -- the walks of at most 254 moves of all headers of the region
 pub record IsGraph (w : World) (c : Cube) (p : Place) (visits : List Visit) (levels : List Level) : Type 0 where
   pub base : Header
   pub based : IsBase c base
   pub all : AreLevels w c base p 255 (visits_at visits levels)
+  pub spots : List Spot
+  pub visited : AreVisited w c base spots visits
+  pub there : AreThere visits levels
 
 -- ---- outcomes
 
@@ -81,22 +100,11 @@ states_below levels (suc n) = states_below levels n ++ states_at levels n
 
 -- ---- while the graph grows
 
--- each visit stands at the number of its spot, and leads to numbers of spots
-pub record IsNumbered (spots : List Spot) (visits : List Visit) : Type 0 where
-  pub at : (i : ℕ) (v : Visit) → slice_get visits i ≡ Some v → slice_get spots i ≡ Some v.spot
-  pub next : AllByRecursion (λ v. AreNumbersOf spots v.next (next_spots v)) visits
-
--- the spots and visits so far
-pub record AreVisited (w : World) (c : Cube) (g : Header) (spots : List Spot) (visits : List Visit) : Type 0 where
-  pub found : AllByRecursion (IsSpot c g) spots
-  pub each : AllByRecursion (IsVisit w c g) visits
-  pub numbered : IsNumbered spots visits
-
 -- the levels below n, whose visits are there already
 pub record AreDone (w : World) (c : Cube) (g : Header) (p : Place) (n : ℕ) (visits : List Visit) (levels : List Level) : Type 0 where
   pub count : length levels ≡ n
   pub right : AreLevels w c g p n (visits_at visits levels)
-  pub there : AllByRecursion (λ (l : Level). AllByRecursion (λ (i : ℕ). i < length visits) l.states) levels
+  pub there : AreThere visits levels
 
 -- the numbers of the spots that the walks of n moves lead to
 pub record AreStates (w : World) (c : Cube) (g : Header) (p : Place) (n : ℕ) (spots : List Spot) (states : List ℕ) : Type 0 where

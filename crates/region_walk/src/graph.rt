@@ -1,5 +1,6 @@
-use crate::level::Level;
-use crate::outcomes::all_outcomes;
+use crate::level::{Level, states_at};
+use crate::outcomes::{all_outcomes, some_is_at};
+use crate::returns::has_loop;
 use crate::visit::Visit;
 use hdr_bits::Cube;
 use net_types::{Label, NoMemory, Place};
@@ -31,11 +32,12 @@ impl<'a> Model for Graph<'a> {
 }
 
 impl<'a> Graph<'a> {
-    ghost use Rattle.std.specs.Prelude.{◌≡◌, ◌≤◌, IfOk};
+    ghost use Rattle.std.specs.Prelude.{◌≡◌, ◌≤◌, ◌↔◌, IfOk, IsTrue};
     ghost use Rattle.hdr_bits.specs.declared.header.Header.{Header};
     ghost use Rattle.hdr_bits.specs.HeaderBits.{number, IsHeader};
     ghost use Rattle.hdr_bits.specs.CubeBits.{IsIn};
     ghost use Rattle.net_types.specs.Walks.{label};
+    ghost use Rattle.net_types.specs.Questions.{Reaches, Loops};
     ghost use Rattle.region_walk.specs.Visits.{IsGraph};
     ghost use Rattle.net_forms.specs.Worlds.{world_in};
 
@@ -69,5 +71,29 @@ impl<'a> Graph<'a> {
         let outcomes = all_outcomes(alloc, &self.visits, &self.levels, ttl)?;
         let label = Label::of(outcomes)?;
         Ok(label)
+    }
+
+    /// Whether each header of the cube may end at this place when it enters with this TTL; else none may.
+    pub fn ends_at(&self, alloc: Global, ttl: u8, place: Place) -> Result<bool, NoMemory>
+        requires { 1 ≤ ttl }
+        ensures { IfOk result (λ answer. (h : Header) → IsHeader h → IsIn self.now.cube (number h) → IsTrue answer ↔ Reaches self.now.world ttl self.now.place place h) }
+    {
+        let label = self.label(alloc, ttl)?;
+        let ends = some_is_at(label.as_slice(), place);
+        Ok(ends)
+    }
+
+    /// Whether each header of the cube loops when it enters with this TTL; else none does.
+    pub fn loops(&self, alloc: Global, ttl: u8) -> Result<bool, NoMemory>
+        requires { 1 ≤ ttl }
+        ensures { IfOk result (λ answer. (h : Header) → IsHeader h → IsIn self.now.cube (number h) → IsTrue answer ↔ Loops self.now.world ttl self.now.place h) }
+    {
+        let last = ttl - 1;
+        // What loops has walks of every number of moves.
+        if states_at(&self.levels, last).len() == 0 {
+            return Ok(false);
+        }
+        let found = has_loop(alloc, &self.visits, &self.levels, last)?;
+        Ok(found)
     }
 }

@@ -6,6 +6,7 @@ mod graph;
 mod level;
 mod outcomes;
 mod regions;
+mod returns;
 mod spot;
 mod visit;
 mod walk;

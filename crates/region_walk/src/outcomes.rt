@@ -1,6 +1,7 @@
 //! The outcomes of all walks of a region.
 
-ghost use Rattle.std.specs.Prelude.{◌≡◌, ◌≤◌, ◌∷◌, [], ◌++◌, IfOk, OnOk, flat_map, filter_map};
+ghost use Rattle.std.specs.Prelude.{◌≡◌, ◌≤◌, ◌↔◌, ◌∷◌, [], ◌++◌, IfOk, OnOk, IsTrue, flat_map, filter_map};
+ghost use Rattle.net_types.specs.Questions.{IsAt, HasOutcomeAt};
 ghost use Rattle.transfer_rel.specs.CubeMoves.{SameSet};
 ghost use Rattle.region_walk.specs.Lists.{items_at};
 ghost use Rattle.region_walk.specs.Spots.{outcome_by, last_outcome_by, outcome_of_move};
@@ -8,7 +9,7 @@ ghost use Rattle.region_walk.specs.Visits.{visits_at, visit_outcomes, outcomes_b
 
 use crate::level::{Level, states_at, states_below};
 use crate::visit::Visit;
-use net_types::{NoMemory, Outcome};
+use net_types::{NoMemory, Outcome, Place};
 use std::alloc::Global;
 use transfer_rel::StampMove;
 
@@ -114,4 +115,40 @@ fn outcome_by(one: &StampMove) -> Option<Outcome>
         }),
         StampMove::Go { place: _, stamp: _ } => None,
     }
+}
+
+/// Whether one of the outcomes is at the place.
+pub(crate) fn some_is_at(outcomes: &[Outcome], place: Place) -> bool
+    ensures { IsTrue result ↔ HasOutcomeAt place outcomes.now }
+{
+    for outcome in outcomes {
+        if is_at(outcome, place) {
+            return true;
+        }
+    }
+    false
+}
+
+// Whether a packet with the outcome is taken by the device at the place, or leaves the network there.
+fn is_at(outcome: &Outcome, place: Place) -> bool
+    ensures { IsTrue result ↔ IsAt place outcome.now }
+{
+    match *outcome {
+        Outcome::Dropped => false,
+        Outcome::Expired => false,
+        Outcome::Local { place: end } => same_place(end, place),
+        Outcome::Exit {
+            place: end,
+            src: _,
+            dst: _,
+            sport: _,
+            dport: _,
+        } => same_place(end, place),
+    }
+}
+
+fn same_place(a: Place, b: Place) -> bool
+    ensures { IsTrue result ↔ (a ≡ b) }
+{
+    a == b
 }

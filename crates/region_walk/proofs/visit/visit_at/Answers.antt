@@ -48,6 +48,7 @@ returns-in_ok-next-in-All-clause-grows c =
     let items = filter_map next_spot c.deref.result.now in
     record {
       extends = extends_adds items c.args.spots.now.keys c.numbers_of.new.spots.keys adds;
+      once = adds.once;
       kept = adds_keep (IsSpot k g) items c.args.spots.now.keys c.numbers_of.new.spots.keys adds
           (subst (λ ms. AllByRecursion (IsSpot k g) (filter_map next_spot ms)) (c.new.ensures ∙ sym c.deref.ensures.value) (next_are_spots w k g v right))
           c.requires.spots;

@@ -75,7 +75,7 @@ returns-then-len-eq0 c =
     (subst (λ vs. SameSet next (flat_map next_numbers (items_at vs c.deref-in-loop-n.result.now))) c.deref.ensures.value c.in_ok-states.ensures) in
     let fits : IsHeader g = record { dst = omega arith; src = omega arith; proto = omega arith; dport = omega arith; sport = omega arith; flags = omega arith } in
     let base : IsBase k g = record { fits = fits; inside = c.least-first.ensures.member } in
-    graph_at_end w k g p (n + 1) new visits levels next base
+    graph_at_end w k g p (n + 1) new visits levels next base all.right
     (done_turn w k g p n spots new before visits states next c.loop-n.invariant.states grows all c.loop-n.levels.items levels l c.loop-n.invariant.done c.in_ok-bit.ensures.visits c.new-in-loop-n.ensures c.in_ok-push-2.ensures.items)
     (states_turn w k g p n spots new before visits states next c.loop-n.invariant.states grows all same)
     (empty_if next (omega (arith, c.in_ok-states.states.ok.0, c.len.ensures, c.if-len-eq0.true)))

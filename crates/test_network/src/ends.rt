@@ -1,0 +1,201 @@
+//! Where a header may end, and whether it loops, by its graph and by the plain rules.
+ghost use Rattle.std.specs.Prelude.{◌≤◌};
+
+use crate::networks::{INGRESS, Networks, Plan, at};
+use crate::tables::{cube_of, ip, web};
+use hdr_bits::Header;
+use net_types::{NoMemory, Outcome, Place, State};
+use net_view::WorldRef;
+use plain_rules::{label, states_after};
+use region_walk::{Explored, Graph, explore};
+use std::alloc::Global;
+use std::io;
+use transfer_rel::{Prepared, Version};
+
+/// The TTLs under which is asked. The plain rules follow each walk anew, so they are asked for loops under the small ones.
+const TTLS: [u8; 5] = [1, 2, 3, 4, 255];
+
+const SMALL: u8 = 4;
+
+// A header that enters, and a place at which it may end.
+#[derive(Clone, Copy)]
+struct Case {
+    name: &'static str,
+    plan: Plan,
+    header: Header,
+    place: Place,
+}
+
+// The answers under each TTL.
+#[derive(Clone, Copy)]
+struct Answers {
+    ends: [bool; 5],
+    loops: [bool; 5],
+}
+
+fn entering(name: &'static str, plan: Plan, header: Header, place: Place) -> Case {
+    Case {
+        name,
+        plan,
+        header,
+        place,
+    }
+}
+
+/// Prints for each case under which TTLs the header may end at the place, under which it loops, and whether the plain rules
+/// say so too.
+pub(crate) fn show(rt: &HostRuntime) -> io::Result<()> {
+    let host = ip(10, 0, 0, 9);
+    let inside = ip(10, 0, 0, 5);
+    let global = ip(203, 0, 113, 5);
+    let far = ip(8, 8, 8, 8);
+    let near = ip(9, 9, 9, 9);
+    let cases = [
+        // It comes to the second router at the first move and at the third.
+        entering("sent to each other", Plan::Pair, web(host, far), at(1, 0)),
+        // What is for a device is taken under the TTL 1 too.
+        entering(
+            "for the second router",
+            Plan::Pair,
+            web(host, ip(10, 0, 12, 2)),
+            at(1, 0),
+        ),
+        // After two moves it is where it entered, as it entered.
+        entering(
+            "there and back in a loop",
+            Plan::Circle,
+            web(inside, far),
+            at(1, 2),
+        ),
+        // After two moves it is where it entered, with another source, and after three where it was after one.
+        entering(
+            "back and there in a loop",
+            Plan::Circle,
+            web(global, far),
+            at(1, 2),
+        ),
+        // What would leave under the TTL 1 expires.
+        entering("there and back", Plan::Circle, web(inside, near), at(1, 2)),
+        entering(
+            "one of two choices arrives",
+            Plan::Fan,
+            web(host, ip(192, 168, 0, 2)),
+            at(1, 1),
+        ),
+    ];
+    for case in &cases {
+        show_case(rt, case)?;
+    }
+    Ok(())
+}
+
+fn show_case(rt: &HostRuntime, case: &Case) -> io::Result<()> {
+    match Networks::of(rt.alloc(), case.plan) {
+        Some(networks) => show_world(rt, case, networks.old()),
+        None => println!(rt; "no network"),
+    }
+}
+
+fn show_world(rt: &HostRuntime, case: &Case, world: WorldRef) -> io::Result<()> {
+    let Some(found) = by_graph(rt.alloc(), case, world) else {
+        return println!(rt; "no graph");
+    };
+    let agree = match all_agree(rt.alloc(), case, world, &found) {
+        Ok(agree) => agree,
+        Err(_) => false,
+    };
+    let name = case.name;
+    let ends = found.ends;
+    let loops = found.loops;
+    println!(rt; "{name}: ends there {ends:?}, loops {loops:?}, by the plain rules {agree}")
+}
+
+// ---- by the graph of this header alone
+
+fn by_graph(alloc: Global, case: &Case, world: WorldRef) -> Option<Answers> {
+    match Prepared::of(alloc, world, world) {
+        Ok(prepared) => explored(alloc, case, &prepared),
+        Err(_) => None,
+    }
+}
+
+fn explored(alloc: Global, case: &Case, prepared: &Prepared) -> Option<Answers> {
+    let cube = cube_of(&case.header, 0)?;
+    match explore(alloc, prepared, Version::Old, INGRESS, &cube) {
+        Ok(Explored::Whole { graph }) => under_each(alloc, case, &graph).ok(),
+        _ => None,
+    }
+}
+
+fn under_each(alloc: Global, case: &Case, graph: &Graph) -> Result<Answers, NoMemory> {
+    let mut ends = [false; 5];
+    for (ttl, answer) in TTLS.iter().zip(ends.iter_mut()) {
+        *answer = graph.ends_at(alloc, (*ttl).max(1), case.place)?;
+    }
+    let mut loops = [false; 5];
+    for (ttl, answer) in TTLS.iter().zip(loops.iter_mut()) {
+        *answer = graph.loops(alloc, (*ttl).max(1))?;
+    }
+    Ok(Answers { ends, loops })
+}
+
+// ---- by the plain rules
+
+fn all_agree(
+    alloc: Global,
+    case: &Case,
+    world: WorldRef,
+    found: &Answers,
+) -> Result<bool, NoMemory> {
+    let mut agree = true;
+    for (ttl, answer) in TTLS.iter().zip(found.ends.iter()) {
+        agree &= *answer == may_end(alloc, case, world, (*ttl).max(1))?;
+    }
+    for (ttl, answer) in TTLS.iter().zip(found.loops.iter()) {
+        agree &= *ttl > SMALL || *answer == may_loop(alloc, case, world, *ttl)?;
+    }
+    Ok(agree)
+}
+
+fn may_end(alloc: Global, case: &Case, world: WorldRef, ttl: u8) -> Result<bool, NoMemory>
+    requires { 1 ≤ ttl }
+{
+    let label = label(alloc, world, ttl, INGRESS, &case.header)?;
+    Ok(
+        label
+            .as_slice()
+            .iter()
+            .any(|outcome| is_at(outcome, case.place)),
+    )
+}
+
+fn is_at(outcome: &Outcome, place: Place) -> bool {
+    match outcome {
+        Outcome::Dropped | Outcome::Expired => false,
+        Outcome::Local { place: end } | Outcome::Exit { place: end, .. } => *end == place,
+    }
+}
+
+// Whether some walk of fewer moves than the TTL is at one state twice.
+fn may_loop(alloc: Global, case: &Case, world: WorldRef, ttl: u8) -> Result<bool, NoMemory> {
+    let start = State {
+        place: INGRESS,
+        header: case.header,
+    };
+    let mut found = false;
+    for before in 0..ttl {
+        for state in &states_after(alloc, world, before, start)? {
+            found |= comes_back(alloc, world, *state, ttl - before)?;
+        }
+    }
+    Ok(found)
+}
+
+// Whether some walk of at least one move and fewer than these leads from the state to itself.
+fn comes_back(alloc: Global, world: WorldRef, state: State, limit: u8) -> Result<bool, NoMemory> {
+    let mut found = false;
+    for around in 1..limit {
+        found |= states_after(alloc, world, around, state)?.contains(&state);
+    }
+    Ok(found)
+}
