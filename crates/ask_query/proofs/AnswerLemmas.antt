@@ -20,9 +20,9 @@ use Rattle.set_walk.specs.Outcomes.{AreLabels}
 use Rattle.set_walk.proofs.SetLemmas.{kept_set, kept_below, no_header}
 use Rattle.set_walk.proofs.EndLemmas.{kept_outcome}
 use Rattle.ask_query.specs.declared.answers.WalkEnds.{WalkEnds}
-use Rattle.ask_query.specs.declared.question.Question.{Question}
-use Rattle.ask_query.specs.Questions.{IsAnswer, ReachesNamed}
-use Rattle.ask_query.specs.declared.question.Answer.TheVariants as answer
+use Rattle.net_types.specs.declared.question.Question.{Question}
+use Rattle.net_types.specs.Questions.{IsAnswer, ReachesNamed}
+use Rattle.net_types.specs.declared.question.Answer.TheVariants as answer
 use Rattle.ask_query.specs.Reaching.{EndsNamed, AreEndsFor}
 use Rattle.ask_query.specs.Breaking.{AreBreaking, HasFilter, HaveFilters, AreWalks}
 use Rattle.ask_query.proofs.ReachingLemmas.{ends_reach}

@@ -1,8 +1,10 @@
-pub mod QuestionLaws
 pub mod ReachingLemmas
 pub mod WholeLemmas
 pub mod WayLemmas
 pub mod LoopLemmas
 pub mod AnswerLemmas
+pub mod SharedLemmas
+pub mod SlotLemmas
+pub mod LeafLemmas
 pub mod ReadingLemmas
 pub mod TextLemmas

@@ -31,9 +31,9 @@ use Rattle.set_walk.proofs.SetLemmas.{kept_set, in_or_not, cube_set, no_header}
 use Rattle.set_walk.proofs.StampLemmas.{applied_fits}
 use Rattle.set_walk.proofs.WalkLemmas.{level_kept}
 use Rattle.ask_query.specs.declared.looping.Level.{Level}
-use Rattle.ask_query.specs.Questions.{Loops}
+use Rattle.net_types.specs.Questions.{Loops}
 use Rattle.ask_query.specs.Looping.{AreLevels, ByWay, GoesOn, IsBack, LoopsFrom, Returns, unchanged_at}
-use Rattle.ask_query.proofs.QuestionLaws.{walks_on}
+use Rattle.net_types.proofs.QuestionLaws.{walks_on}
 use Rattle.ask_query.proofs.ReachingLemmas.{empty_set}
 use Rattle.ask_query.proofs.WayLemmas.{got}
 

@@ -12,10 +12,10 @@ use Rattle.net_types.proofs.Members.{here, in_none, in_one}
 use Rattle.set_walk.specs.declared.ends.OutcomeSet.{OutcomeSet}
 use Rattle.set_walk.specs.Sets.{InSet, IsSetOf}
 use Rattle.set_walk.proofs.SetLemmas.{kept_set}
-use Rattle.ask_query.specs.Questions.{ReachesNamed}
-use Rattle.ask_query.specs.Outcomes.{IsAt}
+use Rattle.net_types.specs.Questions.{ReachesNamed}
+use Rattle.net_types.specs.Questions.{IsAt}
 use Rattle.ask_query.specs.Reaching.{EndsAt, EndsNamed, AreEndsFor}
-use Rattle.ask_query.proofs.QuestionLaws.{reaches_by_label}
+use Rattle.net_types.proofs.QuestionLaws.{reaches_by_label}
 
 pub empty_set : (f : Functions) (set : ℕ) → ((h : ℕ) → value_at f set h ≡ None) → (h : Header) → InSet f set h → ⊥
 empty_set f set e h i = no_value (subst (λ x. IsSome x) (e (number h)) i)

@@ -11,7 +11,7 @@ use Rattle.ask_query.specs.declared.refusal.QuestionFail.{QuestionFail}
 use Rattle.ask_query.specs.declared.refusal.QuestionFail.TheVariants as fail
 use Rattle.ask_query.specs.declared.refusal.QuestionRefusal.TheVariants as refusal
 use Rattle.ask_query.specs.Refusals.{Word, refused, ◌>>=◌, GivesFail}
-use Rattle.ask_query.specs.declared.question.Question.{Question}
+use Rattle.net_types.specs.declared.question.Question.{Question}
 use Rattle.ask_query.specs.Reading.{Said, said, Filter, and_field, bits_at, filter_from, free_field, question_at, questions_in}
 
 -- what was read before, and what is still read

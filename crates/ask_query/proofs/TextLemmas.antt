@@ -4,7 +4,7 @@ use Rattle.std.proofs.lemmas.List.{take_more, append-nil, drop_all, length-take-
 use Rattle.std.proofs.lemmas.Nat.{pow-add}
 use Rattle.std.proofs.Math.Nat.{pow-le-pow_right}
 use Rattle.ask_query.specs.declared.fields.FieldBits.{FieldBits}
-use Rattle.ask_query.specs.declared.question.Answer.{Answer}
+use Rattle.net_types.specs.declared.question.Answer.{Answer}
 use Rattle.ask_query.specs.Fields.{and_digit, digit_of, digits_from}
 use Rattle.ask_query.specs.AnswerText.{answer_text, answers_from}
 use Rattle.ask_query.proofs.ReadingLemmas.{dropped}

@@ -2,8 +2,8 @@
 use Rattle.std.specs.Prelude.{ℕ, ◌+◌, Bool, true, false, List, [], ◌∷◌, ◌++◌, length, filter, codes, decimal}
 use Rattle.hdr_bits.specs.declared.header.Header.{Header}
 use Rattle.report_text.specs.FieldText.{header_text}
-use Rattle.ask_query.specs.declared.question.Answer.{Answer}
-use Rattle.ask_query.specs.declared.question.Answer.TheVariants.{Holds, Fails}
+use Rattle.net_types.specs.declared.question.Answer.{Answer}
+use Rattle.net_types.specs.declared.question.Answer.TheVariants.{Holds, Fails}
 
 abbrev pub fails_text : Header → List ℕ
 fails_text h = codes " fails " ++ header_text h ++ codes "\n"

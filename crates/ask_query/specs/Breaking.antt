@@ -8,8 +8,8 @@ use Rattle.net_types.specs.declared.network.Place.{Place}
 use Rattle.net_types.specs.World.{World}
 use Rattle.set_walk.specs.Sets.{InSet, IsSetOf}
 use Rattle.ask_query.specs.declared.answers.WalkEnds.{WalkEnds}
-use Rattle.ask_query.specs.declared.question.Question.{Question}
-use Rattle.ask_query.specs.Questions.{BreaksKind}
+use Rattle.net_types.specs.declared.question.Question.{Question}
+use Rattle.net_types.specs.Questions.{BreaksKind}
 use Rattle.ask_query.specs.Reaching.{AreEndsFor}
 
 -- the set has the headers of the question's filter that break it

@@ -1,9 +1,9 @@
-pub mod Questions
-pub mod Outcomes
 pub mod Reaching
 pub mod WholeNets
 pub mod Breaking
 pub mod Looping
+pub mod Slots
+pub mod Shared
 pub mod Refusals
 pub mod Fields
 pub mod Reading

@@ -13,7 +13,7 @@ use Rattle.set_walk.specs.declared.step.Way.{Way}
 use Rattle.set_walk.specs.Sets.{InSet}
 use Rattle.set_walk.specs.Levels.{IsLevel}
 use Rattle.ask_query.specs.declared.looping.Level.{Level}
-use Rattle.ask_query.specs.Questions.{Loops}
+use Rattle.net_types.specs.Questions.{Loops}
 
 -- each is the level after as many moves as levels stand before it
 abbrev pub AreLevels : World → Functions → ℕ → Place → Functions → List Level → Type 0

@@ -10,7 +10,7 @@ use Rattle.net_types.specs.Walks.{label}
 use Rattle.set_walk.specs.declared.ends.OutcomeSet.{OutcomeSet}
 use Rattle.set_walk.specs.Sets.{InSet}
 use Rattle.set_walk.specs.Outcomes.{AreEndsBelow, HasOutcome}
-use Rattle.ask_query.specs.Outcomes.{IsAt}
+use Rattle.net_types.specs.Questions.{IsAt}
 
 -- the header has an outcome at the place, by one of the ends
 pub record EndsAt (fs : Functions) (ends : List OutcomeSet) (q : Place) (h : Header) : Type 0 where

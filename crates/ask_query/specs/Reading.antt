@@ -12,9 +12,9 @@ use Rattle.net_types.specs.Routes.{same_text}
 use Rattle.net_types.specs.World.{seat_named}
 use Rattle.ask_query.specs.declared.fields.Field.{Field}
 use Rattle.ask_query.specs.declared.fields.FieldBits.{FieldBits}
-use Rattle.ask_query.specs.declared.question.Question.{Question}
-use Rattle.ask_query.specs.declared.question.QuestionKind.{QuestionKind}
-use Rattle.ask_query.specs.declared.question.QuestionKind.TheVariants as kind
+use Rattle.net_types.specs.declared.question.Question.{Question}
+use Rattle.net_types.specs.declared.question.QuestionKind.{QuestionKind}
+use Rattle.net_types.specs.declared.question.QuestionKind.TheVariants as kind
 use Rattle.ask_query.specs.declared.refusal.QuestionFail.{QuestionFail}
 use Rattle.ask_query.specs.declared.refusal.QuestionRefusal.TheVariants as refusal
 use Rattle.ask_query.specs.Fields.{field_named, field_of}

@@ -1,6 +1,6 @@
 //! The answers to questions on a network, by walks of sets of headers.
 
-ghost use Rattle.std.specs.Prelude.{◌≡◌, ◌≤◌, ◌<◌, ℕ, IfOk, OnOk};
+ghost use Rattle.std.specs.Prelude.{◌≡◌, ◌≤◌, ◌<◌, ℕ, All, IfOk, OnOk, length};
 ghost use Rattle.hdr_bits.specs.declared.header.Header.{Header};
 ghost use Rattle.hdr_bits.specs.HeaderBits.{number, IsHeader};
 ghost use Rattle.hdr_bits.specs.CubeBits.{IsIn};
@@ -10,19 +10,21 @@ ghost use Rattle.net_types.specs.World.{World, same_place};
 ghost use Rattle.net_view.specs.Borrowed.{world_of};
 ghost use Rattle.set_walk.specs.Sets.{InSet, IsSetOf};
 ghost use Rattle.set_walk.specs.Outcomes.{AreEndsBelow};
-ghost use Rattle.ask_query.specs.declared.question.Question.{Question};
-ghost use Rattle.ask_query.specs.Questions.{IsAnswer, AreAnswers, ReachesNamed, Loops};
+ghost use Rattle.net_types.specs.declared.question.Question.{Question};
+ghost use Rattle.net_types.specs.Questions.{IsAnswer, ReachesNamed, Loops};
 ghost use Rattle.ask_query.specs.Reaching.{EndsNamed};
 ghost use Rattle.ask_query.specs.WholeNets.{IsWholeNet};
 ghost use Rattle.ask_query.specs.Breaking.{AreBreaking, HasFilter, HaveFilters, AreWalks};
+ghost use Rattle.ask_query.specs.Slots.{AnswerNumbers};
+ghost use Rattle.ask_query.specs.Shared.{IsAsked};
 
 use crate::looping::looping;
 use crate::reaching::headers_to;
-use crate::{Answer, Question, QuestionKind};
+use crate::shared::Asked;
 use cube_diagram::Diagrams;
 use hdr_bits::Cube;
 use indexmap::IndexMap;
-use net_types::{NoMemory, Place};
+use net_types::{Answer, NoMemory, Place, Question, QuestionKind};
 use set_walk::sets::{both, either, without};
 use set_walk::{Net, OutcomeSet, labels};
 use std::alloc::Global;
@@ -33,42 +35,31 @@ pub struct WalkEnds {
     pub ends: Vec<OutcomeSet>,
 }
 
-/// The answers to the questions, in their order. From each first place the headers that some question asks of are walked once.
-pub(crate) fn answers_by(
+/// The answers to the questions of these numbers, in their order. From each first place the headers that some question asks of
+/// are walked once.
+pub(crate) fn answers_within(
     alloc: Global,
     table: &mut Diagrams,
-    net: &Net,
-    questions: &[Question],
-    ttl: u8,
+    asked: &Asked,
+    numbers: &[usize],
 ) -> Result<Vec<Answer>, NoMemory>
-    requires net { IsWholeNet table.old net.now }
-    requires ttl { 1 ≤ ttl }
-    ensures { IfOk result (λ answers. AreAnswers (world_of net.now.world) ttl questions.now answers.items) }
-{
-    let domain = filtered(table, questions)?;
-    let answers = answers_within(alloc, table, net, domain, questions, ttl)?;
-    Ok(answers)
-}
-
-// The same, where the domain has the headers of all filters.
-fn answers_within(
-    alloc: Global,
-    table: &mut Diagrams,
-    net: &Net,
-    domain: u32,
-    questions: &[Question],
-    ttl: u8,
-) -> Result<Vec<Answer>, NoMemory>
-    requires net { IsWholeNet table.old net.now }
-    requires domain { domain < count_of table.old }
-    requires filters { HaveFilters table.old domain questions.now }
-    requires ttl { 1 ≤ ttl }
-    ensures { IfOk result (λ answers. AreAnswers (world_of net.now.world) ttl questions.now answers.items) }
+    requires asked { IsAsked table.old asked.now }
+    requires numbers { All (λ n. n < length asked.now.questions.now) numbers.now }
+    ensures answers { IfOk result (λ answers. AnswerNumbers (world_of asked.now.net.now.world) asked.now.ttl asked.now.questions.now numbers.now answers.items) }
+    ensures kept { Keeps table.old table.new }
 {
     let mut walks = IndexMap::new(alloc);
     let mut answers = Vec::new(alloc);
-    for question in questions {
-        let breaking = breaking(alloc, table, net, domain, &mut walks, question, ttl)?;
+    for number in numbers {
+        let breaking = breaking(
+            alloc,
+            table,
+            asked.net,
+            asked.domain,
+            &mut walks,
+            &asked.questions[*number],
+            asked.ttl,
+        )?;
         answers.push(answer_by(table, breaking))?;
     }
     Ok(answers)
@@ -207,8 +198,8 @@ fn filtered_loops(
     Ok(set)
 }
 
-// The headers of all filters.
-fn filtered(table: &mut Diagrams, questions: &[Question]) -> Result<u32, NoMemory>
+/// The headers of all filters.
+pub(crate) fn filtered(table: &mut Diagrams, questions: &[Question]) -> Result<u32, NoMemory>
     ensures below { IfOk result (λ r. r < count_of table.new) }
     ensures filters { IfOk result (λ r. HaveFilters table.new r questions.now) }
     ensures kept { Keeps table.old table.new }
@@ -233,7 +224,7 @@ fn with_filter(table: &mut Diagrams, question: &Question, set: u32) -> Result<u3
     Ok(all)
 }
 
-/// The headers of a filter.
+// The headers of a filter.
 fn filter_set(table: &mut Diagrams, filter: &Cube) -> Result<u32, NoMemory>
     ensures below { IfOk result (λ r. r < count_of table.new) }
     ensures exact { IfOk result (λ r. IsSetOf table.new r (λ h. IsIn filter.now (number h))) }

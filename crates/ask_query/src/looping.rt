@@ -16,7 +16,7 @@ ghost use Rattle.set_walk.specs.declared.step.Way.{Way};
 ghost use Rattle.set_walk.specs.Sets.{InSet, IsSetOf};
 ghost use Rattle.set_walk.specs.Ways.{IsStamp};
 ghost use Rattle.set_walk.specs.Told.{AreTold, IsTold};
-ghost use Rattle.ask_query.specs.Questions.{Loops};
+ghost use Rattle.net_types.specs.Questions.{Loops};
 ghost use Rattle.ask_query.specs.declared.looping.Level.{Level};
 ghost use Rattle.ask_query.specs.WholeNets.{IsWholeNet};
 ghost use Rattle.ask_query.specs.Looping.{AreLevels, ByWay, GoesOn, IsBack, Returns, unchanged_at};

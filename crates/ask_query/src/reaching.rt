@@ -4,7 +4,7 @@ ghost use Rattle.std.specs.Prelude.{◌≡◌, ◌<◌, ◌⊎◌, ◌↔◌, If
 ghost use Rattle.cube_diagram.specs.Functions.{Keeps, count_of};
 ghost use Rattle.set_walk.specs.Sets.{InSet, IsSetOf};
 ghost use Rattle.set_walk.specs.Outcomes.{AreEndsBelow};
-ghost use Rattle.ask_query.specs.Outcomes.{IsAt};
+ghost use Rattle.net_types.specs.Questions.{IsAt};
 ghost use Rattle.ask_query.specs.Reaching.{EndsAt, EndsNamed};
 
 use cube_diagram::Diagrams;

@@ -11,10 +11,9 @@ ghost use Rattle.ask_query.specs.Reading.{begins_mark, bits_at, device_called, f
 
 use crate::fields::{Field, FieldBits, field_named, field_of};
 use crate::refusal::{QuestionFail, QuestionRefusal, at_word, missing};
-use crate::{Question, QuestionKind};
 use hdr_bits::Cube;
 use net_text::{Line, Span, lines, part};
-use net_types::{NetDevice, Network, NoMemory, Place, Text};
+use net_types::{NetDevice, Network, NoMemory, Place, Question, QuestionKind, Text};
 use net_view::{same_text, seat_named};
 use std::alloc::Global;
 

@@ -3,9 +3,8 @@
 ghost use Rattle.std.specs.Prelude.{◌≡◌, ◌+◌, ◌++◌, IfOk, OnOk, length};
 ghost use Rattle.ask_query.specs.AnswerText.{answer_text, answers_from, answers_text, failed_count, failed_text, fails, fails_text};
 
-use crate::Answer;
 use hdr_bits::Header;
-use net_types::NoMemory;
+use net_types::{Answer, NoMemory};
 use report_text::{decimal_bytes, header_bytes};
 use std::alloc::Global;
 

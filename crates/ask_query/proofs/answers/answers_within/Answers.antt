@@ -1,30 +1,50 @@
+use Rattle.std.proofs.Common.{ℕ, ◌≡◌, ◌<◌, List, Some, length, get_or, slice_get, sym, subst}
+use Rattle.std.proofs.lemmas.List.Elements.{All-get_or, Contains-get_or}
+use Rattle.std.proofs.lemmas.Option.{get_or_from_slice_get}
+use Rattle.net_types.specs.declared.question.Question.{Question}
+use Rattle.net_types.specs.Questions.{IsAnswer}
 use Rattle.net_view.specs.Borrowed.{world_of}
 use Rattle.set_walk.proofs.SetLemmas.{keeps_then, kept_below}
+use Rattle.ask_query.specs.Slots.{AnswersNumber}
 use Rattle.ask_query.proofs.WholeLemmas.{whole_kept}
-use Rattle.set_walk.proofs.ToldLemmas.{item_among}
-use Rattle.ask_query.specs.Questions.{IsAnswer}
-use Rattle.ask_query.proofs.AnswerLemmas.{filter_kept, zip_more}
+use Rattle.ask_query.proofs.AnswerLemmas.{filter_kept}
+use Rattle.ask_query.proofs.SlotLemmas.{zip_next}
 use Rattle.ask_query.proofs.answers.answers_within.Goals as goal
 
 pub breaking-requires-clause-net : goal.breaking-requires-clause-net
-breaking-requires-clause-net c = whole_kept c.args.table.now c.loop-question.table c.args.net.now c.loop-question.invariant.kept c.requires.net
+breaking-requires-clause-net c = whole_kept c.args.table.now c.loop-number.table c.args.asked.now.net.now c.loop-number.invariant.kept c.requires.asked.net
 
 pub breaking-requires-clause-domain : goal.breaking-requires-clause-domain
-breaking-requires-clause-domain c = kept_below c.args.table.now c.loop-question.table c.args.domain c.loop-question.invariant.kept c.requires.domain
+breaking-requires-clause-domain c = kept_below c.args.table.now c.loop-number.table c.args.asked.now.domain c.loop-number.invariant.kept c.requires.asked.domain
 
 pub breaking-requires-clause-filter : goal.breaking-requires-clause-filter
 breaking-requires-clause-filter c =
-    let q = c.question-item.result in
-    let among = item_among c.args.questions.now c.loop-question.question-index q c.loop-question-test.true c.question-item.is in
-    filter_kept c.args.table.now c.loop-question.table c.args.domain q c.loop-question.invariant.kept c.requires.domain (c.requires.filters q among)
+    let questions : List Question = c.args.asked.now.questions.now in
+    let numbers : List ℕ = c.args.numbers.now in
+    let i = c.loop-number.number-index in
+    let n : ℕ = get_or numbers i 0 in
+    let within : n < length questions = All-get_or (λ m. m < length questions) numbers i 0 c.loop-number-test.true c.requires.numbers in
+    let q : Question = get_or questions n c.index-asked-number.result in
+    filter_kept c.args.table.now c.loop-number.table c.args.asked.now.domain q c.loop-number.invariant.kept c.requires.asked.domain (c.requires.asked.filters q (Contains-get_or questions n c.index-asked-number.result within))
 
-pub loop-question-preserved : goal.loop-question-preserved
-loop-question-preserved c =
-    let w = world_of c.args.net.now.world in
-    let q = c.question-item.result in
+pub loop-number-preserved : goal.loop-number-preserved
+loop-number-preserved c =
+    let w = world_of c.args.asked.now.net.now.world in
+    let t = c.args.asked.now.ttl in
+    let questions : List Question = c.args.asked.now.questions.now in
+    let numbers : List ℕ = c.args.numbers.now in
+    let i = c.loop-number.number-index in
+    let n : ℕ = get_or numbers i 0 in
+    let d : Question = c.index-asked-number.result in
+    let q : Question = get_or questions n d in
     let made = c.in_ok-breaking.ensures in
+    let y = c.answer_by.result in
+    let right : IsAnswer w t q y = c.answer_by.ensures w t q made.exact in
     record {
-      kept = keeps_then c.args.table.now c.loop-question.table c.breaking.new.table c.loop-question.invariant.kept made.kept;
+      kept = keeps_then c.args.table.now c.loop-number.table c.breaking.new.table c.loop-number.invariant.kept made.kept;
       walks = made.walks;
-      answers = rw c.in_ok-push.ensures.items (zip_more (IsAnswer w c.args.ttl) c.args.questions.now c.loop-question.answers.items c.loop-question.question-index q c.answer_by.result c.loop-question-test.true c.question-item.is c.loop-question.invariant.answers (c.answer_by.ensures w c.args.ttl q made.exact));
+      answers = rw c.in_ok-push.ensures.items (zip_next (AnswersNumber w t questions) numbers c.loop-number.answers.items i y c.loop-number-test.true c.loop-number.invariant.answers (λ m there p at.
+          let same : n ≡ m = get_or_from_slice_get numbers i m 0 there in
+          let own : q ≡ p = get_or_from_slice_get questions n p d (subst (λ k. slice_get questions k ≡ Some p) (sym same) at) in
+          subst (λ x. IsAnswer w t x y) own right));
     }

@@ -4,13 +4,13 @@ use Rattle.indexmap.specs.IndexMap.{get}
 use Rattle.cube_diagram.specs.Functions.{Keeps}
 use Rattle.net_types.specs.World.{same_place}
 use Rattle.net_view.specs.Borrowed.{world_of}
-use Rattle.ask_query.specs.Questions.{IsAnswer}
 use Rattle.ask_query.specs.Breaking.{AreWalks}
+use Rattle.ask_query.specs.Slots.{AnswersNumber}
 use Rattle.ask_query.proofs.answers.answers_within.Given as goal
 
-abbrev pub invariant-loop-question : goal.invariant-loop-question
-invariant-loop-question l = record {
+abbrev pub invariant-loop-number : goal.invariant-loop-number
+invariant-loop-number l = record {
   kept : Keeps l.fn.table l.table;
-  walks : AreWalks (world_of l.net.world) l.fn.ttl l.table l.fn.domain (get same_place l.walks);
-  answers : AllZip (IsAnswer (world_of l.net.world) l.fn.ttl) (take l.question-index l.questions) l.answers.items;
+  walks : AreWalks (world_of l.asked.net.now.world) l.asked.ttl l.table l.asked.domain (get same_place l.walks);
+  answers : AllZip (AnswersNumber (world_of l.asked.net.now.world) l.asked.ttl l.asked.questions.now) (take l.number-index l.numbers) l.answers.items;
 }

@@ -2,7 +2,7 @@ use Rattle.hdr_bits.specs.HeaderBits.{number}
 use Rattle.hdr_bits.specs.CubeBits.{IsIn}
 use Rattle.net_view.specs.Borrowed.{world_of}
 use Rattle.ask_query.proofs.WholeLemmas.{whole_kept}
-use Rattle.ask_query.specs.Questions.{Loops}
+use Rattle.net_types.specs.Questions.{Loops}
 use Rattle.ask_query.proofs.LoopLemmas.{of_filter}
 use Rattle.ask_query.proofs.answers.filtered_loops.Goals as goal
 

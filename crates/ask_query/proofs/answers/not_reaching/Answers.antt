@@ -4,7 +4,7 @@ use Rattle.indexmap.specs.IndexMap.{get}
 use Rattle.net_types.specs.World.{same_place}
 use Rattle.net_view.specs.Borrowed.{world_of}
 use Rattle.set_walk.proofs.SetLemmas.{keeps_then, kept_below}
-use Rattle.ask_query.specs.Questions.{ReachesNamed}
+use Rattle.net_types.specs.Questions.{ReachesNamed}
 use Rattle.ask_query.proofs.AnswerLemmas.{without_those, walks_kept}
 use Rattle.ask_query.proofs.answers.not_reaching.Goals as goal
 

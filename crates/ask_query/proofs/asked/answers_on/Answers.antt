@@ -8,7 +8,7 @@ use Rattle.set_walk.specs.Nets.{AreWays}
 use Rattle.ask_query.proofs.asked.answers_on.Goals as goal
 
 pub answers_by-requires-clause-net : goal.answers_by-requires-clause-net
-answers_by-requires-clause-net c = record {
-  ways = subst (λ (ls : List PlaceWays). AreWays (world_of c.args.world) c.args.table.now c.args.scope (λ p. option_and_then (slice_get ls) (get same_place c.args.ways.now.old p))) (sym c.deref.ensures.value) c.requires.ways;
+answers_by-requires-clause-net g c κs within = record {
+  ways = subst (λ (ls : List PlaceWays). AreWays (world_of c.args.world) c.args.table c.args.scope (λ p. option_and_then (slice_get ls) (get same_place c.args.ways.now.old p))) (sym c.deref.ensures.value) c.requires.ways;
   all = c.requires.all;
 }

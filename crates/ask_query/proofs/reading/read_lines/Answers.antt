@@ -1,7 +1,7 @@
 use Rattle.std.proofs.Common.{◌≡◌, sym, subst, ap, ◌∙◌, map, ◌++◌, rules, Vec, Global}
 use Rattle.std.specs.Prelude.{Result, Err, option_map, option_to_list}
 use Rattle.net_text.specs.Lines.{piece}
-use Rattle.ask_query.specs.declared.question.Question.{Question}
+use Rattle.net_types.specs.declared.question.Question.{Question}
 use Rattle.ask_query.specs.declared.refusal.QuestionFail.{QuestionFail}
 use Rattle.ask_query.specs.Refusals.{Gives}
 use Rattle.ask_query.specs.Reading.{questions_in, said}

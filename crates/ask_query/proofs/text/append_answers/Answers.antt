@@ -1,7 +1,7 @@
 use Rattle.std.proofs.Common.{◌∙◌, get_or}
 use Rattle.std.proofs.lemmas.List.{get_or_default}
-use Rattle.ask_query.specs.declared.question.Answer.{Answer}
-use Rattle.ask_query.specs.declared.question.Answer.TheVariants.{Holds}
+use Rattle.net_types.specs.declared.question.Answer.{Answer}
+use Rattle.net_types.specs.declared.question.Answer.TheVariants.{Holds}
 use Rattle.ask_query.proofs.TextLemmas.{answers_more}
 use Rattle.ask_query.proofs.text.append_answers.Goals as goal
 

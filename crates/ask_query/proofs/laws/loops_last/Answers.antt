@@ -1,8 +1,0 @@
-use Rattle.ask_query.proofs.QuestionLaws.{walks_on, loops_longer}
-use Rattle.ask_query.proofs.laws.loops_last.Goals as goal
-
-pub returns-clause-walks : goal.returns-clause-walks
-returns-clause-walks c = walks_on
-
-pub returns-clause-longer : goal.returns-clause-longer
-returns-clause-longer c = loops_longer
