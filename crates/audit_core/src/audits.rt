@@ -2,12 +2,11 @@ ghost use Rattle.std.specs.Prelude.{◌∷◌, [], IfOk, IfSome, map};
 ghost use Rattle.review_core.specs.Causes.{HasCause};
 ghost use Rattle.audit_core.specs.Audits.{Audits, IsAudit, Appends, OrNoMemory};
 
-use crate::folder::read_folder;
 use crate::text::{append_findings, append_total};
 use acl_audit::audit;
 use net_io::Files;
 use net_types::{AccessList, Loaded, NoMemory, Text};
-use review_core::{Report, Stop};
+use review_core::{Report, Stop, read_folder};
 use std::alloc::Global;
 
 /// The findings of all access lists of a folder's configurations.

@@ -2,7 +2,6 @@
 #![tactic(auto)]
 
 mod audits;
-mod folder;
 mod text;
 mod top;
 mod words;

@@ -1,26 +1,22 @@
-ghost use Rattle.std.specs.Prelude.{◌≡◌, ◌≢◌, ◌⊎◌, ℕ, List, ◌≤◌, ◌++◌, None, IfSome, map, string_bytes, option_map};
+ghost use Rattle.std.specs.Prelude.{◌≡◌, ◌≢◌, ◌⊎◌, ℕ, List, ◌≤◌, None, IfSome, map, string_bytes};
 ghost use Rattle.net_io.specs.Faults.{Rose, Faultless};
-ghost use Rattle.net_io.specs.Sink.{TookPrefix};
 ghost use Rattle.review_core.specs.Stops.{status_of, line_of, cannot_read_line};
 ghost use Rattle.review_core.specs.Lines.{cannot_write_text, no_memory_text};
 ghost use Rattle.review_core.specs.declared.stop.Stop.{Stop};
-ghost use Rattle.review_core.specs.Job.{Said, Tells, status_of_report};
+ghost use Rattle.review_core.specs.Job.{Said};
 ghost use Rattle.audit_core.specs.Words.{net_of, usage_text};
 ghost use Rattle.audit_core.specs.Audits.{IsAccepted, Wrote, WrotePart, StoppedWith};
 
 use crate::audits::audit_network;
 use crate::words::net_of;
-use net_io::{Files, Sink, write_all};
-use review_core::{Report, Stop, no_memory};
+use net_io::{Files, Sink};
+use review_core::{say, tell, write_report};
 use std::alloc::Global;
 
 // What is written where the words are outside the usage.
 const USAGE: &[u8] = b"usage:
   audit NET
 ";
-
-// What is written where the output took no more.
-const CANNOT_WRITE: &[u8] = b"cannot write\n";
 
 /// Audits the access lists of the network that the words name, and answers the status.
 pub fn audit_run<F: Files, O: Sink, E: Sink>(
@@ -86,39 +82,4 @@ fn refuse<E: Sink>(err: &mut E) -> u8
 {
     say(err, USAGE);
     2
-}
-
-// Writes the text, and answers whether it has a finding.
-fn write_report<O: Sink, E: Sink>(report: &Report, out: &mut O, err: &mut E) -> u8
-    ensures written { (result ≡ 6) ⊎ ((result ≡ status_of_report report.now) × (O.taken out.new ≡ option_map (λ taken. taken ++ report.now.text.items) (O.taken out.old))) }
-    ensures part { result ≡ 6 → TookPrefix (O.taken out.old) report.now.text.items (O.taken out.new) }
-    ensures cause { result ≡ 6 → Rose (O.faults out.old) (O.faults out.new) }
-    ensures quiet { (result ≡ 6) ⊎ (E.taken err.new ≡ E.taken err.old) }
-    ensures line { result ≡ 6 → Said cannot_write_text (E.taken err.old) (E.taken err.new) (E.faults err.old) (E.faults err.new) }
-{
-    match write_all(out, &report.text) {
-        Ok(()) => u8::from(report.affected),
-        Err(_) => {
-            say(err, CANNOT_WRITE);
-            6
-        }
-    }
-}
-
-// Says why there is no text.
-fn tell<E: Sink>(alloc: Global, stop: &Stop, err: &mut E) -> u8
-    ensures { Tells stop.now result (E.taken err.old) (E.taken err.new) (E.faults err.old) (E.faults err.new) }
-{
-    let Ok(line) = stop.line(alloc) else {
-        return no_memory(err);
-    };
-    say(err, &line);
-    stop.status()
-}
-
-// A line on the error output. Where that fails, the status tells the cause alone.
-fn say<E: Sink>(err: &mut E, line: &[u8])
-    ensures { Said line.now (E.taken err.old) (E.taken err.new) (E.faults err.old) (E.faults err.new) }
-{
-    let _ = write_all(err, line);
 }

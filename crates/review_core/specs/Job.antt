@@ -20,11 +20,11 @@ use Rattle.net_gen.specs.Networks.{networks}
 use Rattle.report_text.specs.ReportText.{report_text, summary_text}
 use Rattle.report_text.specs.Readings.{readings_text}
 use Rattle.walk_trace.specs.Traced.{traced}
-use Rattle.ask_query.specs.declared.question.Answer.{Answer}
-use Rattle.ask_query.specs.declared.question.Question.{Question}
+use Rattle.net_types.specs.declared.question.Answer.{Answer}
+use Rattle.net_types.specs.declared.question.Question.{Question}
 use Rattle.ask_query.specs.declared.refusal.QuestionFail.TheVariants as fail
 use Rattle.ask_query.specs.AnswerText.{answers_text, failed_count}
-use Rattle.ask_query.specs.Questions.{AreAnswers}
+use Rattle.net_types.specs.Questions.{AreAnswers}
 use Rattle.ask_query.specs.Reading.{questions_of, said}
 use Rattle.walk_trace.specs.TraceText.{trace_text}
 use Rattle.review_core.specs.declared.report.Report.{Report}

@@ -12,15 +12,20 @@ use crate::folder::read_folder;
 use crate::report::Report;
 use crate::stop::Stop;
 use crate::table::{Wires, read_table};
-use ask_query::{Question, QuestionFail, answer, answers_bytes, failed_count, read_questions};
+use crate::workers::Workers;
+use ask_query::{QuestionFail, answer, answers_bytes, failed_count, read_questions};
 use net_io::Files;
 use net_load::{Numbered, number_all};
-use net_types::{Loaded, NoMemory, Text};
+use net_types::{Loaded, NoMemory, Question, Text};
 use std::alloc::Global;
+use std::sync::Wait;
+use std::thread::Threads;
+use steal_pool::Gate;
 use topo_links::LinkTable;
 
 /// The answers to the questions of a file on the network of a folder.
-pub(crate) fn ask_in_folder<F: Files>(
+pub(crate) fn ask_in_folder<F: Files, R: Threads + Wait + Sync, G: Gate + Sync>(
+    by: &Workers<R, G>,
     alloc: Global,
     files: &mut F,
     net: &str,
@@ -33,13 +38,14 @@ pub(crate) fn ask_in_folder<F: Files>(
     ensures cause { HasCause (F.faults files.old) (F.faults files.new) result }
 {
     match read_folder(alloc, files, net) {
-        Ok(devices) => ask_over(alloc, files, devices, links, questions, ttl),
+        Ok(devices) => ask_over(by, alloc, files, devices, links, questions, ttl),
         Err(stop) => Err(stop),
     }
 }
 
 // The answers in a network and a link table, which is judged with the network as both.
-fn ask_over<F: Files>(
+fn ask_over<F: Files, R: Threads + Wait + Sync, G: Gate + Sync>(
+    by: &Workers<R, G>,
     alloc: Global,
     files: &mut F,
     devices: Vec<Loaded>,
@@ -53,13 +59,14 @@ fn ask_over<F: Files>(
     ensures cause { HasCause (F.faults files.old) (F.faults files.new) result }
 {
     match read_table(alloc, files, links, Wires::Both, &devices, &devices) {
-        Ok(table) => ask_with(alloc, files, devices, &table, questions, ttl),
+        Ok(table) => ask_with(by, alloc, files, devices, &table, questions, ttl),
         Err(stop) => Err(stop),
     }
 }
 
 // The answers in a network with these links, and the file of questions.
-fn ask_with<F: Files>(
+fn ask_with<F: Files, R: Threads + Wait + Sync, G: Gate + Sync>(
+    by: &Workers<R, G>,
     alloc: Global,
     files: &mut F,
     devices: Vec<Loaded>,
@@ -74,13 +81,14 @@ fn ask_with<F: Files>(
     ensures cause { HasCause (F.faults files.old) (F.faults files.new) result }
 {
     match read_bytes(alloc, files, questions) {
-        Ok(bytes) => ask_numbered(alloc, devices, table, questions, &bytes, ttl),
+        Ok(bytes) => ask_numbered(by, alloc, devices, table, questions, &bytes, ttl),
         Err(stop) => Err(stop),
     }
 }
 
 // The answers to the questions that the bytes of a file ask.
-fn ask_numbered(
+fn ask_numbered<R: Threads + Wait + Sync, G: Gate + Sync>(
+    by: &Workers<R, G>,
     alloc: Global,
     devices: Vec<Loaded>,
     table: &LinkTable,
@@ -95,11 +103,12 @@ fn ask_numbered(
     ensures { AsksOn path.now (asked_network devices.items table.now) ttl bytes.now result }
 {
     let numbered = number_all(alloc, devices, Vec::new(alloc), table, &[])?;
-    ask_on(alloc, path, &numbered, bytes, ttl)
+    ask_on(by, alloc, path, &numbered, bytes, ttl)
 }
 
 // The same, where names are numbers. Places of questions are found among those of the network.
-fn ask_on(
+fn ask_on<R: Threads + Wait + Sync, G: Gate + Sync>(
+    by: &Workers<R, G>,
     alloc: Global,
     path: &str,
     numbered: &Numbered,
@@ -111,7 +120,7 @@ fn ask_on(
     ensures { AsksOn path.now numbered.now ttl bytes.now result }
 {
     match read_questions(alloc, &numbered.old, bytes) {
-        Ok(questions) => answered(alloc, numbered, &questions, ttl),
+        Ok(questions) => answered(by, alloc, numbered, &questions, ttl),
         Err(QuestionFail::NoMemory) => Err(Stop::NoMemory),
         Err(QuestionFail::Refused { kind, line, word }) => Err(Stop::RefusedQuestions {
             path: Text::copy_of(alloc, path.as_bytes())?,
@@ -122,7 +131,8 @@ fn ask_on(
     }
 }
 
-fn answered(
+fn answered<R: Threads + Wait + Sync, G: Gate + Sync>(
+    by: &Workers<R, G>,
     alloc: Global,
     numbered: &Numbered,
     questions: &[Question],
@@ -131,11 +141,12 @@ fn answered(
     requires { IsTtl ttl }
     ensures { OrNoMemory (IsAnswering numbered.now questions.now ttl) result }
 {
-    let report = answering(alloc, numbered, questions, ttl)?;
+    let report = answering(by, alloc, numbered, questions, ttl)?;
     Ok(report)
 }
 
-fn answering(
+fn answering<R: Threads + Wait + Sync, G: Gate + Sync>(
+    by: &Workers<R, G>,
     alloc: Global,
     numbered: &Numbered,
     questions: &[Question],
@@ -144,7 +155,16 @@ fn answering(
     requires { IsTtl ttl }
     ensures { IfOk result (IsAnswering numbered.now questions.now ttl) }
 {
-    let answers = answer(alloc, &numbered.old, &numbered.links, questions, ttl)?;
+    let answers = answer(
+        by.rt,
+        alloc,
+        &numbered.old,
+        &numbered.links,
+        questions,
+        ttl,
+        by.count,
+        by.gate,
+    )?;
     let text = answers_bytes(alloc, &answers)?;
     let affected = failed_count(&answers) > 0;
     Ok(Report { text, affected })

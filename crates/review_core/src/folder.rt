@@ -10,8 +10,8 @@ use net_load::{LoadFail, load_folder};
 use net_types::Loaded;
 use std::alloc::Global;
 
-/// The devices of a folder.
-pub(crate) fn read_folder<F: Files>(
+/// The devices of a folder, or why there are none.
+pub fn read_folder<F: Files>(
     alloc: Global,
     files: &mut F,
     folder: &str,

@@ -3,6 +3,7 @@
 
 mod asking;
 mod comparison;
+mod ending;
 mod file;
 mod folder;
 mod generated;
@@ -17,8 +18,10 @@ mod tracing;
 mod words;
 mod workers;
 
+pub use ending::{no_memory, say, tell, write_report};
+pub use folder::read_folder;
 pub use report::Report;
 pub use stop::Stop;
 pub use table::Wires;
-pub use top::{no_memory, run};
+pub use top::run;
 pub use words::{Job, Packet};

@@ -1,24 +1,24 @@
-ghost use Rattle.std.specs.Prelude.{◌≡◌, ◌≢◌, ◌⊎◌, ℕ, List, ◌≤◌, ◌++◌, None, Some, Err, IfSome, IfErr, map, string_bytes, option_map};
+ghost use Rattle.std.specs.Prelude.{◌≡◌, ◌≢◌, ◌⊎◌, ℕ, List, ◌≤◌, None, Some, IfSome, map, string_bytes};
 ghost use Rattle.net_io.specs.Faults.{Rose, Faultless};
-ghost use Rattle.net_io.specs.Sink.{TookPrefix};
 ghost use Rattle.review_core.specs.Causes.{HasCause};
 ghost use Rattle.review_core.specs.Words.{job_of, IsWithin};
 ghost use Rattle.review_core.specs.Stops.{status_of, line_of, cannot_read_line};
 ghost use Rattle.review_core.specs.Lines.{usage_text, cannot_write_text, no_memory_text};
 ghost use Rattle.review_core.specs.Accepted.{IsAccepted};
 ghost use Rattle.review_core.specs.declared.stop.Stop.{Stop};
-ghost use Rattle.review_core.specs.Job.{Performs, Wrote, WrotePart, StoppedWith, Said, Tells, status_of_report};
+ghost use Rattle.review_core.specs.Job.{Performs, Wrote, WrotePart, StoppedWith, Said};
 
 use crate::asking::ask_in_folder;
 use crate::comparison::compare_folders;
+use crate::ending::{no_memory, say, tell, write_report};
 use crate::generated::compare_generated;
 use crate::reading::read_network;
 use crate::report::Report;
-use crate::stop::{NO_MEMORY, Stop};
+use crate::stop::Stop;
 use crate::tracing::trace_in_folder;
 use crate::words::{Job, asked_of};
 use crate::workers::Workers;
-use net_io::{Files, Sink, write_all};
+use net_io::{Files, Sink};
 use review_args::WordsFail;
 use std::alloc::Global;
 use std::sync::Wait;
@@ -34,12 +34,9 @@ const USAGE: &[u8] = b"usage:
   gen NUMBER SIZE [--workers N]
 ";
 
-// What is written where the output took no more.
-const CANNOT_WRITE: &[u8] = b"cannot write\n";
-
-/// Does what the words of the command line ask, and answers the status. Networks are compared by as many workers as the words
-/// say, each of which passes the gate before it works on a region; for every number of them and every interleaving the bytes
-/// are the same.
+/// Does what the words of the command line ask, and answers the status. Networks are compared, and questions answered, by as many
+/// workers as the words say, each of which passes the gate before it works on a region; for every number of them and every
+/// interleaving the bytes are the same.
 pub fn run<F: Files, O: Sink, E: Sink, G: Gate + Sync, R: Threads + Wait + Sync>(
     rt: &R,
     alloc: Global,
@@ -105,15 +102,6 @@ pub fn run<F: Files, O: Sink, E: Sink, G: Gate + Sync, R: Threads + Wait + Sync>
     }
 }
 
-/// Says that there was no memory, and answers the status: also for a caller that has none for the words.
-pub fn no_memory<E: Sink>(err: &mut E) -> u8
-    ensures status { result ≡ 7 }
-    ensures line { Said no_memory_text (E.taken err.old) (E.taken err.new) (E.faults err.old) (E.faults err.new) }
-{
-    say(err, NO_MEMORY);
-    7
-}
-
 // Does the job.
 fn perform<F: Files, R: Threads + Wait + Sync, G: Gate + Sync>(
     by: &Workers<R, G>,
@@ -148,6 +136,7 @@ fn perform<F: Files, R: Threads + Wait + Sync, G: Gate + Sync>(
             questions,
             ttl,
         } => ask_in_folder(
+            by,
             alloc,
             files,
             net.as_str(),
@@ -173,39 +162,4 @@ fn refuse<E: Sink>(err: &mut E) -> u8
 {
     say(err, USAGE);
     2
-}
-
-// Writes the report, and answers the status: whether it has a row, or a question fails.
-fn write_report<O: Sink, E: Sink>(report: &Report, out: &mut O, err: &mut E) -> u8
-    ensures written { (result ≡ 6) ⊎ ((result ≡ status_of_report report.now) × (O.taken out.new ≡ option_map (λ taken. taken ++ report.now.text.items) (O.taken out.old))) }
-    ensures part { result ≡ 6 → TookPrefix (O.taken out.old) report.now.text.items (O.taken out.new) }
-    ensures cause { result ≡ 6 → Rose (O.faults out.old) (O.faults out.new) }
-    ensures quiet { (result ≡ 6) ⊎ (E.taken err.new ≡ E.taken err.old) }
-    ensures line { result ≡ 6 → Said cannot_write_text (E.taken err.old) (E.taken err.new) (E.faults err.old) (E.faults err.new) }
-{
-    match write_all(out, &report.text) {
-        Ok(()) => u8::from(report.affected),
-        Err(_) => {
-            say(err, CANNOT_WRITE);
-            6
-        }
-    }
-}
-
-// Says why there is no report.
-fn tell<E: Sink>(alloc: Global, stop: &Stop, err: &mut E) -> u8
-    ensures { Tells stop.now result (E.taken err.old) (E.taken err.new) (E.faults err.old) (E.faults err.new) }
-{
-    let Ok(line) = stop.line(alloc) else {
-        return no_memory(err);
-    };
-    say(err, &line);
-    stop.status()
-}
-
-// A line on the error output. Where that fails, the status tells the cause alone.
-fn say<E: Sink>(err: &mut E, line: &[u8])
-    ensures { Said line.now (E.taken err.old) (E.taken err.new) (E.faults err.old) (E.faults err.new) }
-{
-    let _ = write_all(err, line);
 }

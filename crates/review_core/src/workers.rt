@@ -1,6 +1,6 @@
 ghost use Rattle.std.specs.Prelude.{◌≤◌};
 
-/// Who compares: 1 to 64 workers, each of which passes the gate before it works on a region.
+/// Who compares and answers: 1 to 64 workers, each of which passes the gate before it works on a region.
 #[derive(Drop)]
 pub(crate) struct Workers<'a, R, G> {
     pub(crate) rt: &'a R,
