@@ -1,14 +1,15 @@
 //! The cases of the file `comparisons`: each a line `== NAME` and its files, each a line `-- PATH` and its lines. There are
-//! always the folders `old` and `new`. Those of the file `commands` have besides the command lines that are run over the
+//! always the folders `old` and `new`, and a comparison gives the same by 1, 4 and 64 workers. Those of the file `commands` have besides the command lines that are run over the
 //! files, each behind `$ ` and with a blank between words.
 
-use crate::runs::{COMPARE, show_line, show_run};
+use crate::runs::{COMPARE, Finished, ran, show_line, show_ran};
 use crate::stop::Stop;
 use net_io::MemFiles;
 use std::alloc::Global;
 use std::fs;
 use std::sync::Wait;
 use std::thread::Threads;
+use steal_pool::OpenGate;
 
 pub(crate) fn show<R: Threads + Wait + Sync>(rt: &HostRuntime, threads: &R) -> Result<(), Stop> {
     let cases = fs::read_to_string(rt, "comparisons")?;
@@ -26,7 +27,22 @@ fn show_case<R: Threads + Wait + Sync>(
     let (name, given) = case.split_once('\n').unwrap_or((case, ""));
     println!(rt; "== {name}")?;
     let mut files = files_of(rt.alloc(), given)?;
-    show_run(rt, threads, &mut files, &COMPARE, 10_000)
+    let by_four = ran(rt.alloc(), threads, &mut files, &COMPARE, 10_000, &OpenGate)?;
+    show_ran(rt, &by_four)?;
+    for workers in ["1", "64"] {
+        let words = ["compare", "old", "new", "links", "--workers", workers];
+        let by_others = ran(rt.alloc(), threads, &mut files, &words, 10_000, &OpenGate)?;
+        if !are_equal(&by_four, &by_others) {
+            println!(rt; "something else by {workers} workers")?;
+        }
+    }
+    Ok(())
+}
+
+fn are_equal(one: &Finished, other: &Finished) -> bool {
+    one.status == other.status
+        && one.out.taken() == other.out.taken()
+        && one.err.taken() == other.err.taken()
 }
 
 pub(crate) fn show_commands<R: Threads + Wait + Sync>(
@@ -50,7 +66,7 @@ fn show_commands_of<R: Threads + Wait + Sync>(
     let mut files = files_of(rt.alloc(), given)?;
     for line in given.lines() {
         if let Some(words) = line.strip_prefix("$ ") {
-            show_line(rt, threads, &mut files, words)?;
+            show_line(rt, threads, &mut files, words, &OpenGate)?;
         }
     }
     Ok(())

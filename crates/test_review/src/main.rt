@@ -3,15 +3,21 @@
 //! this folder.
 #![tactic(auto)]
 
+mod causes;
 mod comparisons;
 mod faults;
+mod filled;
+mod gates;
+mod hostile;
 mod limits;
+mod meetings;
 mod memory;
 mod names;
 mod reports;
 mod runs;
 mod stop;
 mod system;
+mod tally;
 
 use crate::stop::Stop;
 use std::io;
@@ -24,7 +30,9 @@ fn show_all<R: Threads + Wait + Sync>(rt: &HostRuntime, threads: &R) -> Result<(
     faults::show_rooms(rt, threads)?;
     faults::show_faults(rt, threads)?;
     limits::show(rt, threads)?;
+    hostile::show(rt, threads)?;
     comparisons::show_commands(rt, threads)?;
+    meetings::show(rt, threads)?;
     show_parts(rt)
 }
 

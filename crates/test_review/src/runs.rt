@@ -1,13 +1,13 @@
 //! Runs of the program over files in memory.
 
 use crate::stop::Stop;
-use net_io::{MemFiles, MemSink};
+use net_io::{Files, MemFiles, MemSink};
 use review_core::run;
 use std::alloc::{AllocError, Global};
 use std::io::Write;
 use std::sync::Wait;
 use std::thread::Threads;
-use steal_pool::OpenGate;
+use steal_pool::{Gate, OpenGate};
 
 /// The words of a comparison of the folders `old` and `new`.
 pub(crate) const COMPARE: [&str; 4] = ["compare", "old", "new", "links"];
@@ -20,7 +20,38 @@ fn strings(alloc: Global, words: &[&str]) -> Result<Vec<String>, AllocError> {
     Ok(given)
 }
 
-/// Runs the words where the output has so much room, and shows the status and what was written.
+/// What a run gave: its status, and what was written.
+#[derive(Drop)]
+pub(crate) struct Finished {
+    pub(crate) status: u8,
+    pub(crate) out: MemSink,
+    pub(crate) err: MemSink,
+}
+
+/// Runs the words where the output has so much room, and each worker passes the gate.
+pub(crate) fn ran<R: Threads + Wait + Sync, G: Gate + Sync>(
+    alloc: Global,
+    threads: &R,
+    files: &mut MemFiles,
+    words: &[&str],
+    room: usize,
+    gate: &G,
+) -> Result<Finished, Stop> {
+    let words = strings(alloc, words)?;
+    let mut out = MemSink::new(alloc, room)?;
+    let mut err = MemSink::new(alloc, 1000)?;
+    let status = run(threads, alloc, &words, files, &mut out, &mut err, gate);
+    Ok(Finished { status, out, err })
+}
+
+/// The status, and what was written.
+pub(crate) fn show_ran(rt: &HostRuntime, ran: &Finished) -> Result<(), Stop> {
+    println!(rt; "status {}", ran.status)?;
+    show_lines(rt, ran.out.taken())?;
+    show_lines(rt, ran.err.taken())
+}
+
+/// Runs the words where the output has so much room, and shows what that gave.
 pub(crate) fn show_run<R: Threads + Wait + Sync>(
     rt: &HostRuntime,
     threads: &R,
@@ -28,43 +59,35 @@ pub(crate) fn show_run<R: Threads + Wait + Sync>(
     words: &[&str],
     room: usize,
 ) -> Result<(), Stop> {
-    let words = strings(rt.alloc(), words)?;
-    show_words(rt, threads, files, &words, room)
+    let ran = ran(rt.alloc(), threads, files, words, room, &OpenGate)?;
+    show_ran(rt, &ran)
 }
 
-/// Runs the words of a command line, with a blank between words, and shows them, the status and what was written.
-pub(crate) fn show_line<R: Threads + Wait + Sync>(
+/// Runs the words of a command line, with a blank between words, and shows them and what that gave.
+pub(crate) fn show_line<R: Threads + Wait + Sync, G: Gate + Sync>(
     rt: &HostRuntime,
     threads: &R,
     files: &mut MemFiles,
     line: &str,
+    gate: &G,
 ) -> Result<(), Stop> {
     println!(rt; "$ {line}")?;
     let words: Vec<&str> = line.split(' ').collect(rt.alloc())?;
-    show_run(rt, threads, files, &words, 10_000)
+    let ran = ran(rt.alloc(), threads, files, &words, 10_000, gate)?;
+    show_ran(rt, &ran)
 }
 
-fn show_words<R: Threads + Wait + Sync>(
+/// Runs the words with these outputs, and answers the status.
+pub(crate) fn status_of<F: Files, R: Threads + Wait + Sync>(
     rt: &HostRuntime,
     threads: &R,
-    files: &mut MemFiles,
-    words: &[String],
-    room: usize,
-) -> Result<(), Stop> {
-    let mut out = MemSink::new(rt.alloc(), room)?;
-    let mut err = MemSink::new(rt.alloc(), 1000)?;
-    let status = run(
-        threads,
-        rt.alloc(),
-        words,
-        files,
-        &mut out,
-        &mut err,
-        &OpenGate,
-    );
-    println!(rt; "status {status}")?;
-    show_lines(rt, out.taken())?;
-    show_lines(rt, err.taken())
+    files: &mut F,
+    words: &[&str],
+    out: &mut MemSink,
+    err: &mut MemSink,
+) -> Result<u8, Stop> {
+    let words = strings(rt.alloc(), words)?;
+    Ok(run(threads, rt.alloc(), &words, files, out, err, &OpenGate))
 }
 
 /// Bytes as they are, with the end of their last line.
