@@ -2,10 +2,14 @@
 """Texts that are cut or spoiled: the program refuses them with their line, or accepts them, and does nothing else.
 
     hostile.py PROGRAM [--every N] [--jobs J] [--seconds S]
+    hostile.py PROGRAM --large
 
 Each configuration, link table and question file of examples/ is cut after each of its bytes, has each byte replaced by 0, by
 255, by a blank and by a line end, and each of its words doubled. With --every N each Nth of these texts is tried alone
 (without it, all: half an hour), and with --seconds S a run that takes longer fails. The last line is 'N passed, M failed'.
+
+With --large the texts are instead of 16,777,216 bytes, the most that a file may have: the longest lines, the most lines and the
+most words, in a configuration, a link table and a file of questions. Each has a line with its status, processor seconds and memory.
 """
 import multiprocessing
 import os
@@ -66,10 +70,13 @@ def judge(program, scratch, words, most):
     except subprocess.TimeoutExpired:
         return "no end within a minute"
     seconds = time.monotonic() - start
+    return f"{seconds:.1f} seconds" if seconds > most else wrong_end(scratch, it)
+
+
+def wrong_end(scratch, it):
+    """What is wrong with how a run ended, or None."""
     if it.returncode not in (0, 1, 3):
         return f"status {it.returncode}: {it.stderr!r}"
-    if seconds > most:
-        return f"{seconds:.1f} seconds"
     if it.returncode != 3:
         return f"an error line: {it.stderr!r}" if it.stderr else None
     if it.stdout:
@@ -80,6 +87,108 @@ def judge(program, scratch, words, most):
     with open(os.path.join(scratch, os.fsdecode(found[1])), "rb") as file:
         lines = file.read().count(b"\n") + 1
     return f"a line that isn't there: {it.stderr!r}" if int(found[2]) > lines else None
+
+
+LIMIT = 16777216
+
+# A small network, in which a text takes the place of one file.
+SMALL = {
+    "net/R1.cfg": b"hostname R1\ninterface E0\n ip address 10.0.0.1 255.255.255.0\n",
+    "links": b"ingress R1 E0\n",
+    "questions": b"noloop R1 E0\n",
+}
+
+# What stands first in a large text, and what then comes again and again, as often as it has room; the last time it is cut.
+LARGE = {
+    "net/R1.cfg": [
+        (b"hostname R1\n", b"\n"),
+        (b"hostname R1\n", b"!"),
+        (b"hostname R1\n", b"!\n"),
+        (b"hostname R1\n", b"x"),
+        (b"hostname R1\n", b"x "),
+        (b"hostname R1\n", b"x\n"),
+        (b"hostname R1\n", b" \r\t"),
+        (b"hostname R1\n", b"hostname R1\n"),
+        (b"hostname R1\nhostname ", b"R"),
+        (b"hostname R1\nhostname R", b" R"),
+        (b"hostname R1\ninterface ", b"E"),
+        (b"hostname R1\n", b"interface E\n"),
+        (b"hostname R1\ninterface E0\n", b" shutdown\n"),
+        (b"hostname R1\ninterface E0\n", b" ip address 1.1.1.1 255.0.0.0 secondary\n"),
+        (b"hostname R1\ninterface E0\n ip address ", b"1"),
+        (b"hostname R1\nbanner motd ^C", b"^"),
+        (b"hostname R1\nbanner motd #", b"\n"),
+        (b"hostname R1\nip access-list standard a\n", b" permit any\n"),
+        (b"hostname R1\nip access-list standard a\n remark ", b"x "),
+        (b"hostname R1\nip access-list standard a\n", b" 5 permit any\n"),
+        (b"hostname R1\nip access-list extended a\n permit 6 any eq ", b"1 "),
+        (b"hostname R1\nip access-list extended a\n permit 6 any any match-any ", b"+syn "),
+        (b"hostname R1\nip route 0.0.0.0 0.0.0.0 Null0 ", b"name x "),
+        (b"hostname R1\n", b"ip route 0.0.0.0 0.0.0.0 Null0\n"),
+        (b"hostname R1\nip route 0.0.0.0 0.0.0.0 ", b"9"),
+        (b"", b"\0"),
+        (b"", b"\xff"),
+    ],
+    "links": [
+        (b"ingress R1 E0\n", b"\n"),
+        (b"ingress R1 E0\n", b"! "),
+        (b"ingress R1 E0\n", b"x"),
+        (b"", b"ingress R1 E0\n"),
+        (b"ingress R1 E0\nlan R1 E1 R1 E2", b" R1 E3"),
+        (b"ingress R1 E0\nlan", b" x"),
+        (b"ingress R1 E0\np2p R1 ", b"E"),
+        (b"", b"\0"),
+    ],
+    "questions": [
+        (b"", b"\n"),
+        (b"", b"! "),
+        (b"", b"x"),
+        (b"noloop R1 E0", b" dst 10.0.0.0/8"),
+        (b"noloop R1 E0 dst ", b"*"),
+        (b"", b"noloop R1 E0\n"),
+        (b"", b"reach R1 E0 to R1 E0 dst 10.0.0.9\n"),
+        (b"", b"\0"),
+    ],
+}
+
+# Numbered lines.
+NUMBERED = {
+    "net/R1.cfg": [b"interface %x\n", b"ip access-list standard a%x\n", b"ip route 0.0.0.0 0.0.0.0 %d.1.1.1\n"],
+    "links": [b"ingress R1 %x\n", b"ingress %x E0\n"],
+}
+
+
+def large():
+    """The path, a name and the bytes of each large text."""
+    for path, texts in LARGE.items():
+        for front, again in texts:
+            bytes_left = LIMIT - len(front)
+            text = front + again * (bytes_left // len(again)) + again[: bytes_left % len(again)]
+            yield path, f"{front!r} and {again!r} again and again", text
+    for path, lines in NUMBERED.items():
+        for line in lines:
+            text = bytearray(b"hostname R1\n" if path.endswith(".cfg") else b"")
+            number = 0
+            while len(text) + 40 < LIMIT:
+                text += line % (number % 224 if b"%d" in line else number)
+                number += 1
+            yield path, f"{line!r} with each number", bytes(text)
+
+
+def try_large(program, path, text):
+    """What is wrong with the run over a small network in which this text stands at the path; and how it ended."""
+    with tempfile.TemporaryDirectory(prefix="hostile") as scratch:
+        os.mkdir(f"{scratch}/net")
+        for name, bytes_of in {**SMALL, path: text}.items():
+            with open(f"{scratch}/{name}", "wb") as it:
+                it.write(bytes_of)
+        words = ["ask", "net", "links", "questions"]
+        timed = ["/usr/bin/time", "-f", "%U s %M KB", "-o", f"{scratch}/time", os.path.abspath(program)]
+        it = subprocess.run([*timed, *words], cwd=scratch, capture_output=True)
+        with open(f"{scratch}/time") as file:
+            took = file.read().split("\n")[-2]
+        wrong = wrong_end(scratch, it)
+        return wrong, f"status {it.returncode}, {took}, {it.stderr[:100] or it.stdout[-40:]!r}"
 
 
 def try_case(task):
@@ -110,9 +219,23 @@ def try_case(task):
     return passed, failures
 
 
+def try_all_large(program):
+    passed = failed = 0
+    for path, name, text in large():
+        wrong, ended = try_large(program, path, text)
+        passed += wrong is None
+        failed += wrong is not None
+        print(f"{path}, {name}: {ended}{'' if wrong is None else f': FAILED: {wrong}'}", flush=True)
+    return passed, failed
+
+
 def main():
     words = sys.argv[1:]
     every, jobs, most = 1, os.cpu_count(), 60.0
+    if words[1:] == ["--large"]:
+        passed, failed = try_all_large(words[0])
+        print(f"{passed} passed, {failed} failed")
+        sys.exit(failed > 0 or passed == 0)
     while len(words) > 2:
         *words, option, value = words
         if option == "--every":
