@@ -1,7 +1,8 @@
 #!/usr/bin/env bash
 # Times the built program on networks that networks.py makes: rows, seconds and megabytes; and, by crates/bench_compare, the
-# places, their ways, the nodes of the table after each stage, and where the time goes. Words choose one network, as
-# `list 100 20`, or `generated 7 200`: the networks of `gen 7 200`, from files, and that command itself.
+# places, their ways, the nodes of the table after each stage, where the time goes, and how much faster 2 and 4 workers are than
+# one, from start to end and from the start of the walk. Words choose one network, as `list 100 20`, or `generated 7 200`: the
+# networks of `gen 7 200`, from files, and that command itself.
 cd "$(dirname "$0")/.." || exit 1
 folder=$(mktemp -d) || exit 1
 trap 'rm -rf "$folder"' EXIT
@@ -18,7 +19,7 @@ measure() {
         python3 bench/networks.py "$1" "$folder" "${@:2}" || exit 1
     fi
     python3 - "$name" "$folder" <<'PYTHON'
-import resource, subprocess, sys, time
+import re, resource, subprocess, sys, time
 name, folder = sys.argv[1:]
 words = [folder + "/old", folder + "/new", folder + "/links"]
 
@@ -36,8 +37,14 @@ timed(name, "compare", *words)
 if name.startswith("generated "):
     timed("gen " + name.removeprefix("generated "), "gen", *name.split()[1:])
 run = subprocess.run(["crates/bench_compare/out/bench_compare", *words, "time"], stdout=subprocess.PIPE)
-for line in run.stdout.decode().splitlines():
+shown = run.stdout.decode()
+for line in shown.splitlines():
     print("    " + line)
+shared = sum(int(us) for us in re.findall(r"(?:compile|ways|reach) (\d+) us", shown))
+by = {int(n): int(us) for us, n in re.findall(r"compare (\d+) us by (\d+) workers", shown)}
+for n in sorted(by)[1:]:
+    walks = (by[1] - shared) / max(1, by[n] - shared)
+    print("    %d workers: %.2f times as fast as one, %.2f times from the start of the walk" % (n, by[1] / by[n], walks))
 PYTHON
 }
 
@@ -49,6 +56,7 @@ for n in 50 100 200; do measure chain $n; done
 measure generated 7 200
 measure fabric 4 16
 measure fabric 16 64
+measure listed 16 64 50 5
 measure leaves 16 250
 measure layers 16 8 4 20
 measure ring 100
@@ -58,6 +66,8 @@ for n in 1000 3000; do
     measure list $n 0
     measure list $n 20
 done
+measure lists 3000 0 100
+measure lists 3000 20 100
 for n in 50 100 200 400; do
     for change in route list translation; do measure crossed $n $change; done
 done

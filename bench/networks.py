@@ -11,6 +11,8 @@
     networks.py folders FOLDER N          N devices of ten interfaces that have nothing to do with one another; nothing is changed
     networks.py list FOLDER N PERCENT     a device with a list of N generated entries, one of which is changed; of a hundred
                                           entries PERCENT have any source, and as many any destination
+    networks.py lists FOLDER N PERCENT C  a device with such a list for arriving and one for leaving packets, in each of which C entries change
+    networks.py listed FOLDER S L N C     such a fabric, with a list of N entries on each leaf, in each of which C entries change
     networks.py crossed FOLDER N CHANGE   two devices one behind the other, each with a list of N entries with ports told by `neq` and
                                           ranges, flags by `match-any`, and wildcards with holes; CHANGE is `route` (one host's),
                                           `list` (an entry of the second device) or `translation` (a rule is new)
@@ -72,10 +74,35 @@ def chain(folder, n):
 def fabric(folder, spines, leaves):
     """Leaf l has the subnet 10.1.l.0/24 and sends the rest to all spines alike. In the new network spine 1 has lost its
     route to leaf 1 and drops what is for it."""
+    equal_cost(folder, spines, leaves, {}, True)
+
+
+def listed(folder, spines, leaves, entries, changes):
+    """A fabric whose leaves have lists for what comes from their subnets."""
+    random_ = random.Random(5)
+    lists = {}
+    for l in range(1, leaves + 1):
+        old = [entry_between(random_, "10.1.%d.0 0.0.0.255" % l, leaves) for _ in range(entries)]
+        lists[l] = {"old": old, "new": changed(old, changes)}
+    equal_cost(folder, spines, leaves, lists, False)
+
+
+def entry_between(random_, source, leaves):
+    ports = sorted((random_.randint(1, 65535), random_.randint(1, 65535)))
+    port = " range %d %d" % tuple(ports) if random_.random() < 0.5 else " eq %d" % ports[0]
+    subnet_ = "10.1.%d.0 0.0.0.255" % random_.randint(1, leaves) if random_.random() < 0.8 else "any"
+    action = "permit" if random_.random() < 0.7 else "deny"
+    return "%s %s %s %s%s" % (action, random_.choice(("tcp", "udp")), source, subnet_, port)
+
+
+def equal_cost(folder, spines, leaves, lists, loses):
     for version in ("old", "new"):
         devices = {}
         for l in range(1, leaves + 1):
             lines = ["interface Ethernet0", " ip address 10.1.%d.1 255.255.255.0" % l]
+            if l in lists:
+                lines += [" ip access-group 101 in"] + ["access-list 101 " + line for line in lists[l][version]]
+                lines += ["access-list 101 permit ip 10.1.%d.0 0.0.0.255 any" % l]
             for s in range(1, spines + 1):
                 lines += ["interface Uplink%d" % s, " ip address 172.%d.%d.2 255.255.255.252" % (15 + s, l)]
             lines += ["ip route 10.1.0.0 255.255.0.0 172.%d.%d.1" % (15 + s, l) for s in range(1, spines + 1)]
@@ -85,7 +112,7 @@ def fabric(folder, spines, leaves):
             for l in range(1, leaves + 1):
                 lines += ["interface Port%d" % l, " ip address 172.%d.%d.1 255.255.255.252" % (15 + s, l)]
             for l in range(1, leaves + 1):
-                if version == "new" and s == 1 and l == 1:
+                if loses and version == "new" and s == 1 and l == 1:
                     lines.append("ip route 10.1.1.0 255.255.255.0 Null0")
                 else:
                     lines.append("ip route 10.1.%d.0 255.255.255.0 172.%d.%d.2" % (l, 15 + s, l))
@@ -308,13 +335,33 @@ def entry(random_, percent):
     return "%s %s %s %s%s" % (action, protocol, address(), address(), port())
 
 
+def turned(entry):
+    """The entry with the other action."""
+    return entry.replace("permit", "deny") if entry.startswith("permit") else entry.replace("deny", "permit")
+
+
+def changed(entries, count):
+    """The entries, of which so many are turned, in equal steps."""
+    places = {(2 * k + 1) * len(entries) // (2 * count) for k in range(count)}
+    return [turned(entry) if i in places else entry for i, entry in enumerate(entries)]
+
+
+def lists(folder, n, percent, changes):
+    random_ = random.Random(7)
+    old = [[entry(random_, percent) for _ in range(n)] for _ in range(2)]
+    for version, (first, second) in (("old", old), ("new", [changed(entries, changes) for entries in old])):
+        device = ["interface Ethernet0", " ip address 192.0.2.1 255.255.255.252", " ip access-group 101 in"]
+        device += ["interface Ethernet1", " ip address 192.0.2.5 255.255.255.252", " ip access-group 102 out"]
+        device += ["ip route 0.0.0.0 0.0.0.0 192.0.2.6"]
+        device += ["access-list 101 " + line for line in first] + ["access-list 102 " + line for line in second]
+        write(folder, version, {"R1": device})
+    write_links(folder, ["ingress R1 Ethernet0"])
+
+
 def one_list(folder, n, percent):
     random_ = random.Random(7)
     entries = [entry(random_, percent) for _ in range(n)]
-    changed = list(entries)
-    middle = changed[n // 2]
-    changed[n // 2] = middle.replace("permit", "deny") if middle.startswith("permit") else middle.replace("deny", "permit")
-    for version, lines in (("old", entries), ("new", changed)):
+    for version, lines in (("old", entries), ("new", changed(entries, 1))):
         device = ["interface Ethernet0", " ip address 192.0.2.1 255.255.255.252", " ip access-group 101 in"]
         device += ["interface Ethernet1", " ip address 192.0.2.5 255.255.255.252", "ip route 0.0.0.0 0.0.0.0 192.0.2.6"]
         write(folder, version, {"R1": device + ["access-list 101 " + line for line in lines]})
@@ -324,7 +371,7 @@ def one_list(folder, n, percent):
 def main():
     kind, folder, *numbers = sys.argv[1:]
     shapes = {"list": one_list}
-    shapes.update((shape.__name__, shape) for shape in (chain, fabric, leaves, layers, ring, device, folders, crossed))
+    shapes.update((shape.__name__, shape) for shape in (chain, fabric, listed, lists, leaves, layers, ring, device, folders, crossed))
     shapes[kind](folder, *(int(word) if word.isdigit() else word for word in numbers))
 
 
