@@ -2,6 +2,7 @@
 use Rattle.std.specs.Prelude.{ℕ, true, false, not, List, [], ◌∷◌, ◌++◌, map, filter, flat_map, position, unwrap_or, length, ◌+◌}
 use Rattle.std.specs.List.{list_any}
 use Rattle.std.specs.Str.{bytes_eq}
+use Rattle.std.proofs.lemmas.List.{length-map}
 use Rattle.net_types.specs.World.{same_place}
 use Rattle.net_types.specs.declared.config.Config.{Config}
 use Rattle.net_types.specs.declared.config.Loaded.{Loaded}
@@ -48,6 +49,7 @@ device_of names l = record {
   name = number_of names l.config.hostname;
   config = l.config;
   numbers = map (λ i. number_of names i.name) l.config.interfaces;
+  numbered = length-map l.config.interfaces (λ i. number_of names i.name);
 }
 
 -- the devices in the order of their files

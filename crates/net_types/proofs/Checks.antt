@@ -160,29 +160,35 @@ floating distance shut output = record {
     everything_else : Entry
     everything_else = record { sequence = 20; permit = true; proto = None; src = any_address; sport = port.Any; dst = any_address; dport = port.Any; icmp = icmp.Any; flags = flag.Any }
 
--- a network of one device without links, with the interfaces 0, 1 and 2
-abbrev alone : Config → World
-alone c = record {
-  network = record { devices = record { name = 3; config = c; numbers = 0 ∷ 1 ∷ 2 ∷ [] } ∷ [] };
+abbrev two : List ℕ
+two = 0 ∷ 1 ∷ []
+
+abbrev three : List ℕ
+three = 0 ∷ 1 ∷ 2 ∷ []
+
+-- a network of one device without links, with interfaces of these numbers
+abbrev alone : (c : Config) (numbers : List ℕ) → length numbers ≡ length c.interfaces → World
+alone c numbers same = record {
+  network = record { devices = record { name = 3; config = c; numbers = numbers; numbered = same } ∷ [] };
   links = record { segments = []; ingress = place 3 0 ∷ [] };
 }
 
 abbrev exits : ℕ → Outcome
 exits k = end.Exit (place 3 k) None None None None
 
-the_better_route_alone : label (alone (floating 200 false None)) 255 (place 3 0) (to (address 192 168 0 7)) ≡ exits 1 ∷ []
+the_better_route_alone : label (alone (floating 200 false None) three refl) 255 (place 3 0) (to (address 192 168 0 7)) ≡ exits 1 ∷ []
 unfolding label
 the_better_route_alone = refl
 
-the_floating_route_takes_over : label (alone (floating 200 true None)) 255 (place 3 0) (to (address 192 168 0 7)) ≡ exits 2 ∷ []
+the_floating_route_takes_over : label (alone (floating 200 true None) three refl) 255 (place 3 0) (to (address 192 168 0 7)) ≡ exits 2 ∷ []
 unfolding label
 the_floating_route_takes_over = refl
 
-equal_routes_are_both_taken : label (alone (floating 1 false None)) 255 (place 3 0) (to (address 192 168 0 7)) ≡ exits 1 ∷ exits 2 ∷ []
+equal_routes_are_both_taken : label (alone (floating 1 false None) three refl) 255 (place 3 0) (to (address 192 168 0 7)) ≡ exits 1 ∷ exits 2 ∷ []
 unfolding label
 equal_routes_are_both_taken = refl
 
-output_list_on_one_choice : label (alone (floating 1 false (Some (codes "102")))) 255 (place 3 0) (to (address 192 168 0 7)) ≡ end.Dropped ∷ exits 1 ∷ []
+output_list_on_one_choice : label (alone (floating 1 false (Some (codes "102"))) three refl) 255 (place 3 0) (to (address 192 168 0 7)) ≡ end.Dropped ∷ exits 1 ∷ []
 unfolding label
 output_list_on_one_choice = refl
 
@@ -212,9 +218,9 @@ other_protocol_stays = refl
 -- ---- two routers: R1 (number 3) with Ethernet0 10.0.0.1/24 and Ethernet1 10.0.12.1/30, R2 (number 4) with Ethernet0
 -- 10.0.12.2/30, linked by Ethernet1 of R1 and Ethernet0 of R2; packets enter at Ethernet0 of R1
 
-abbrev linked : Config → Config → World
-linked c d = record {
-  network = record { devices = record { name = 3; config = c; numbers = 0 ∷ 1 ∷ [] } ∷ record { name = 4; config = d; numbers = 0 ∷ 1 ∷ [] } ∷ [] };
+abbrev linked : (c d : Config) → 2 ≡ length c.interfaces → 2 ≡ length d.interfaces → World
+linked c d m n = record {
+  network = record { devices = record { name = 3; config = c; numbers = two; numbered = m } ∷ record { name = 4; config = d; numbers = two; numbered = n } ∷ [] };
   links = record { segments = record { lan = false; ends = place 3 1 ∷ place 4 0 ∷ [] } ∷ []; ingress = place 3 0 ∷ [] };
 }
 
@@ -243,11 +249,11 @@ and_back nat = record {
 abbrev from_10_0_0_5 : Header
 from_10_0_0_5 = record { dst = address 10 9 0 2; src = address 10 0 0 5; proto = 6; dport = 80; sport = 40000; flags = 2 }
 
-there_and_back_is_the_same : label (linked there (and_back (static_rule (address 203 0 113 5) (address 10 0 0 5) ∷ []))) 8 (place 3 0) from_10_0_0_5 ≡ end.Exit (place 4 1) None None None None ∷ []
+there_and_back_is_the_same : label (linked there (and_back (static_rule (address 203 0 113 5) (address 10 0 0 5) ∷ [])) refl refl) 8 (place 3 0) from_10_0_0_5 ≡ end.Exit (place 4 1) None None None None ∷ []
 unfolding label
 there_and_back_is_the_same = refl
 
-there_alone_changes_the_source : label (linked there (and_back [])) 8 (place 3 0) from_10_0_0_5 ≡ end.Exit (place 4 1) (Some (address 203 0 113 5)) None None None ∷ []
+there_alone_changes_the_source : label (linked there (and_back []) refl refl) 8 (place 3 0) from_10_0_0_5 ≡ end.Exit (place 4 1) (Some (address 203 0 113 5)) None None None ∷ []
 unfolding label
 there_alone_changes_the_source = refl
 
@@ -286,12 +292,12 @@ to_outside_host nat = record {
   nat = nat;
 }
 
-destination_after_the_lookup : label (alone (to_outside_host (outer_rule (address 198 51 100 7) (address 10 8 0 7) ∷ []))) 255 (place 3 0) (to (address 10 8 0 7)) ≡ end.Exit (place 3 1) None (Some (address 198 51 100 7)) None None ∷ []
+destination_after_the_lookup : label (alone (to_outside_host (outer_rule (address 198 51 100 7) (address 10 8 0 7) ∷ [])) two refl) 255 (place 3 0) (to (address 10 8 0 7)) ≡ end.Exit (place 3 1) None (Some (address 198 51 100 7)) None None ∷ []
 unfolding label
 destination_after_the_lookup = refl
 
 -- the global address has no route, and isn't looked for
-destination_as_it_comes : label (alone (to_outside_host (outer_rule (address 198 51 100 7) (address 10 8 0 7) ∷ []))) 255 (place 3 0) (to (address 198 51 100 7)) ≡ end.Dropped ∷ []
+destination_as_it_comes : label (alone (to_outside_host (outer_rule (address 198 51 100 7) (address 10 8 0 7) ∷ [])) two refl) 255 (place 3 0) (to (address 198 51 100 7)) ≡ end.Dropped ∷ []
 unfolding label
 destination_as_it_comes = refl
 
@@ -303,7 +309,9 @@ default_by interfaces next = record { hostname = codes "R"; interfaces = interfa
 abbrev at_each_other : World
 at_each_other = linked
     (default_by (interface ethernet0 (slash24 (address 10 0 0 1)) Neither ∷ interface ethernet1 (slash (address 10 0 12 1)) Neither ∷ []) (address 10 0 12 2))
-    (default_by (interface ethernet0 (slash (address 10 0 12 2)) Neither ∷ []) (address 10 0 12 1))
+    (default_by (interface ethernet0 (slash (address 10 0 12 2)) Neither ∷ interface ethernet1 (slash (address 10 9 0 1)) Neither ∷ []) (address 10 0 12 1))
+    refl
+    refl
 
 abbrev in_state : Place → State
 in_state p = record { place = p; header = to 0 }
@@ -340,7 +348,7 @@ two_links shut = record {
 }
 
 abbrev seen : ℕ → Bool → ℕ → List Outcome
-seen ttl shut dst = label (alone (two_links shut)) ttl (place 3 0) (to dst)
+seen ttl shut dst = label (alone (two_links shut) two refl) ttl (place 3 0) (to dst)
 
 leaves_by_ethernet1 : seen 255 false (address 10 0 1 0) ≡ exits 1 ∷ []
 unfolding label

@@ -12,6 +12,7 @@ mod label;
 pub mod laws;
 mod list;
 mod network;
+mod prefix;
 mod question;
 mod text;
 mod word;
@@ -27,6 +28,7 @@ pub use network::{
     Hop, Links, Move, Names, NetDevice, Network, Place, Rib, Row, Section, Segment, State, Verdict,
 };
 pub use no_memory::NoMemory;
+pub use prefix::first_bits;
 pub use question::{Answer, Question, QuestionKind};
 pub use text::Text;
 pub use word::Word;

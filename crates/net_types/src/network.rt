@@ -1,3 +1,5 @@
+ghost use Rattle.std.specs.Prelude.{◌≡◌, length};
+
 use crate::{Config, Label, List, Route, Text};
 use hdr_bits::{Cube, Header};
 
@@ -55,6 +57,7 @@ pub struct NetDevice {
     pub config: Config,
     /// The numbers of the names of the configuration's interfaces, in the same order.
     pub numbers: List<u32>,
+    pub ghost numbered: { length numbers ≡ length config.interfaces },
 }
 
 /// The devices of a network, one of each name.

@@ -164,16 +164,17 @@ fn add_configured(
     name: u32,
     config: Config,
 ) -> Option<()> {
-    match numbers(alloc, config.interfaces.as_slice().len()) {
-        Ok(numbers) => devices
-            .push(NetDevice {
-                name,
-                config,
-                numbers,
-            })
-            .ok(),
-        Err(_) => None,
+    let numbers = numbers(alloc, config.interfaces.as_slice().len()).ok()?;
+    if numbers.as_slice().len() != config.interfaces.as_slice().len() {
+        return None;
     }
+    devices
+        .push(NetDevice {
+            name,
+            config,
+            numbers,
+        })
+        .ok()
 }
 
 // The numbers 0, 1, .., as many as there are interfaces.

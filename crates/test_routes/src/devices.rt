@@ -118,10 +118,14 @@ fn are_equal(alloc: Global, a: Change, b: Change) -> Option<bool> {
 fn device(alloc: Global, change: Change) -> Option<NetDevice> {
     let text = text_of(alloc, change)?;
     let config = read(alloc, &text)?;
+    let numbers = List::new(numbers(alloc, change)?);
+    if numbers.as_slice().len() != config.interfaces.as_slice().len() {
+        return None;
+    }
     Some(NetDevice {
         name: if matches!(change, Change::Name) { 2 } else { 1 },
         config,
-        numbers: List::new(numbers(alloc, change)?),
+        numbers,
     })
 }
 
