@@ -3,6 +3,7 @@ pub mod TraceLemmas
 pub mod RelativeMoves
 pub mod LevelLemmas
 pub mod NumberLemmas
+pub mod DivisionLemmas
 pub mod Turns
 pub mod LoopLemmas
 pub mod SpotEquality

@@ -68,7 +68,7 @@ level_all P (l ∷ ls) (suc n) a = level_all P ls n a.1
 -- ---- visits
 
 -- one more visit
-pub visited_push : (w : World) (c : Cube) (g : Header) (spot : Spot) (spots new : List Spot) (visits : List Visit) (v : Visit) → AreVisited w c g spots visits → slice_get spots (length visits) ≡ Some spot → IsVisitOf w c g spot new v → GrowsWith (IsSpot c g) spots new → AreVisited w c g new (visits ++ (v ∷ []))
+pub visited_push : (w : World) (c : Cube) (g : Header) (spot : Spot) (spots new : List Spot) (visits : List Visit) (v : Visit) → AreVisited w c g spots visits → slice_get spots (length visits) ≡ Some spot → IsVisitOf w c g spot spots new v → GrowsWith (IsSpot c g) spots new → AreVisited w c g new (visits ++ (v ∷ []))
 visited_push w c g spot spots new visits v a there one grows =
     let more : (i : ℕ) (s : Spot) → slice_get spots i ≡ Some s → slice_get new i ≡ Some s =
     λ i s e. subst (λ l. slice_get l i ≡ Some s) (sym grows.extends.added) (get_joined spots grows.extends.more i s e) in
@@ -99,8 +99,8 @@ none_visited w c g spots found once = record {
 
 -- ---- a turn
 
-level_is : (w : World) (c : Cube) (g : Header) (p : Place) (n : ℕ) (spots new : List Spot) (visits : List Visit) (states : List ℕ) → AreStates w c g p n spots states → Extends spots new → AllVisited w c g spots new visits → IsLevel w c g p n (items_at visits states)
-level_is w c g p n spots new visits states a grows all =
+level_is : (w : World) (c : Cube) (g : Header) (p : Place) (n seen : ℕ) (spots new : List Spot) (visits : List Visit) (states : List ℕ) → AreStates w c g p n spots states → Extends spots new → AllVisited w c g seen spots new visits → IsLevel w c g p n (items_at visits states)
+level_is w c g p n seen spots new visits states a grows all =
     let there : AllByRecursion (λ (i : ℕ). i < length visits) states = all_weaker (λ (i : ℕ). i < length spots) (λ (i : ℕ). i < length visits) states (λ i l. omega (arith, l, all.all)) a.there in
     let same : map spot_of (items_at visits states) ≡ items_at spots states = items_stand spot_of visits new all.right.numbered.at states there ∙ items_more spots new states grows a.there in
     record {
@@ -108,14 +108,14 @@ level_is w c g p n spots new visits states a grows all =
       each = items_all (IsVisit w c g) visits states all.right.each;
     }
 
-module _ (w : World) (c : Cube) (g : Header) (p : Place) (n : ℕ) (spots new : List Spot) (before visits : List Visit) (states next : List ℕ)
-    (a : AreStates w c g p n spots states) (grows : Extends spots new) (all : AllVisited w c g spots new visits) where
+module _ (w : World) (c : Cube) (g : Header) (p : Place) (n seen : ℕ) (spots new : List Spot) (before visits : List Visit) (states next : List ℕ)
+    (a : AreStates w c g p n spots states) (grows : Extends spots new) (all : AllVisited w c g seen spots new visits) where
   pub states_turn : SameSet next (flat_map next_numbers (items_at visits states)) → AreStates w c g p (n + 1) new next
   states_turn same =
       let vs = items_at visits states in
       let numbered : AllByRecursion (λ v. AreNumbersOf new v.next (next_spots v)) vs = items_all (λ v. AreNumbersOf new v.next (next_spots v)) visits states all.right.numbered.next in
       record {
-        after = rw add-one (next_after w c g p n vs (items_at new next) (level_is w c g p n spots new visits states a grows all) (same_items new next_numbers next_spots vs next numbered same));
+        after = rw add-one (next_after w c g p n vs (items_at new next) (level_is w c g p n seen spots new visits states a grows all) (same_items new next_numbers next_spots vs next numbered same));
         there = next_within new next_numbers next_spots vs next numbered same;
       }
 
@@ -126,7 +126,7 @@ module _ (w : World) (c : Cube) (g : Header) (p : Place) (n : ℕ) (spots new : 
       each = λ k h. elim (eq-or-lt_of_le (let u : k ≤ n = omega (arith, h) in u)) [
         | inl s ↦
             let here : states_at (levels ++ (l ∷ [])) k ≡ states = ap (states_at (levels ++ (l ∷ []))) (s ∙ sym d.count) ∙ level_last levels l ∙ e in
-            subst (λ j. IsLevel w c g p j (visits_at visits (levels ++ (l ∷ [])) k)) (sym s) (subst (λ ns. IsLevel w c g p n (items_at visits ns)) (sym here) (level_is w c g p n spots new visits states a grows all))
+            subst (λ j. IsLevel w c g p j (visits_at visits (levels ++ (l ∷ [])) k)) (sym s) (subst (λ ns. IsLevel w c g p n (items_at visits ns)) (sym here) (level_is w c g p n seen spots new visits states a grows all))
         | inr b ↦
             let within : AllByRecursion (λ (i : ℕ). i < length before) (states_at levels k) = level_all (λ (i : ℕ). i < length before) levels k d.there in
             let old : visits_at visits (levels ++ (l ∷ [])) k ≡ visits_at before levels k = ap (items_at visits) (level_before levels l k (omega (arith, b, d.count))) ∙ items_more before visits (states_at levels k) more within in

@@ -6,4 +6,5 @@ pub mod Visits
 pub mod Returns
 pub mod Seen
 pub mod Region
+pub mod Divisions
 pub mod Answers

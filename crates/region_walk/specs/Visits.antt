@@ -1,5 +1,5 @@
 -- What the walks of all headers of a region meet at each number of moves.
-use Rattle.std.specs.Prelude.{◌≡◌, ℕ, zero, suc, ◌+◌, ◌<◌, Bool, ◌==◌, List, [], ◌∷◌, ◌++◌, Some, map, flat_map, filter_map, length, slice_get}
+use Rattle.std.specs.Prelude.{◌≡◌, ℕ, zero, suc, ◌+◌, ◌<◌, ◌≤◌, Bool, ◌==◌, List, [], ◌∷◌, ◌++◌, Some, map, flat_map, filter_map, length, slice_get, Contains}
 use Rattle.std.specs.List.{AllByRecursion}
 use Rattle.hdr_bits.specs.declared.header.Header.{Header}
 use Rattle.hdr_bits.specs.declared.cube.Cube.{Cube}
@@ -110,3 +110,7 @@ pub record AreDone (w : World) (c : Cube) (g : Header) (p : Place) (n : ℕ) (vi
 pub record AreStates (w : World) (c : Cube) (g : Header) (p : Place) (n : ℕ) (spots : List Spot) (states : List ℕ) : Type 0 where
   pub after : AreAfter w c g p n (items_at spots states)
   pub there : AllByRecursion (λ (i : ℕ). i < length spots) states
+
+-- the spots that have no visit yet are all among those with these numbers
+abbrev pub AreFresh : List Visit → List Spot → List ℕ → Type 0
+AreFresh visits spots states = (i : ℕ) → length visits ≤ i → i < length spots → Contains states i

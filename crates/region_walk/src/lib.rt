@@ -1,5 +1,5 @@
-//! The walks of all headers of a cube at once: a graph for a whole region of headers, or the halves of the region where
-//! some device looks at a bit that the cube leaves open.
+//! The walks of all headers of a cube at once: a graph for a whole region of headers, or the halves of the region where two
+//! of its headers take different entries on the way.
 #![tactic(auto)]
 
 mod graph;

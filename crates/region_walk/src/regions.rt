@@ -17,7 +17,7 @@ use transfer_rel::{Prepared, Version};
 pub enum Explored<'a> {
     /// All its headers walk alike.
     Whole { graph: Graph<'a> },
-    /// Some device on the way looks at a bit that is open in the region: these are the halves of the region by that bit.
+    /// Two headers of the region take different entries at a place on the way: these are its halves by a bit that is open in it.
     Halves { low: Cube, high: Cube },
 }
 

@@ -1,6 +1,6 @@
 //! What the headers of a region do at a spot.
 
-ghost use Rattle.std.specs.Prelude.{◌≡◌, ◌∷◌, [], ◌++◌, ℕ, Some, IfOk, OnOk, map, filter_map, slice_get};
+ghost use Rattle.std.specs.Prelude.{◌≡◌, ◌∷◌, [], Some, IfOk, OnOk, map, filter_map, slice_get};
 ghost use Rattle.std.specs.List.{AllByRecursion};
 ghost use Rattle.net_forms.specs.Worlds.{world_in};
 ghost use Rattle.region_walk.specs.Lists.{AddsFrom, AreNumbersOf};
@@ -25,8 +25,8 @@ pub(crate) struct Visit {
     pub next: List<usize>,
 }
 
-/// The visit of a spot, or a bit that is open in the region and at which the device looks. The spots to which it goes on
-/// are added.
+/// The visit of a spot; or, where two headers of the region take different entries there, a bit that is open in the region.
+/// The spots to which it goes on are added.
 pub(crate) fn visit_at(
     alloc: Global,
     prepared: &Prepared,
@@ -39,7 +39,7 @@ pub(crate) fn visit_at(
     requires base { IsBase cube.now first.now }
     requires spot { IsSpot cube.now first.now spot.now }
     requires spots { AllByRecursion (IsSpot cube.now first.now) spots.now.keys }
-    ensures seen { IfOk result (λ answer. OfSeen (world_in prepared.now version) cube.now first.now spot.now spots.new.keys answer) }
+    ensures seen { IfOk result (λ answer. OfSeen (world_in prepared.now version) cube.now first.now spot.now spots.old.keys spots.new.keys answer) }
     ensures grows { OnOk result (GrowsWith (IsSpot cube.now first.now) spots.old.keys spots.new.keys) }
 {
     let stamp = spot.stamp();

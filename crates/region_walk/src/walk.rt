@@ -1,9 +1,9 @@
 //! All walks of the headers of a region, level by level.
 
-ghost use Rattle.std.specs.Prelude.{◌≡◌, ◌∷◌, [], IfOk, OnOk};
+ghost use Rattle.std.specs.Prelude.{IfOk, OnOk};
 ghost use Rattle.net_forms.specs.Worlds.{world_in};
 ghost use Rattle.hdr_bits.specs.Lists.{Extends};
-ghost use Rattle.region_walk.specs.Spots.{IsBase, IsSpot};
+ghost use Rattle.region_walk.specs.Spots.{IsBase};
 ghost use Rattle.region_walk.specs.Visits.{AreVisited};
 ghost use Rattle.region_walk.specs.Seen.{OfSweep, OfWalked};
 
@@ -17,7 +17,8 @@ use net_types::{List, NoMemory, Place};
 use std::alloc::Global;
 use transfer_rel::{Prepared, Version};
 
-/// What a walk over all new spots finds: a visit of each, or a bit that is open in the region.
+/// What a walk over all new spots finds: a visit of each; or, where headers of the region take different entries at one, a
+/// bit that is open in the region.
 #[derive(Drop)]
 pub(crate) enum Sweep {
     All,
@@ -31,8 +32,8 @@ pub(crate) struct Walked {
     pub levels: Vec<Level>,
 }
 
-/// Walks all headers of the cube from the place, by at most 254 moves; or answers a bit that is open in the cube and at
-/// which some device on the way looks.
+/// Walks all headers of the cube from the place, by at most 254 moves; or, where two of them take different entries on the
+/// way, answers a bit that is open in the cube.
 pub(crate) fn walk(
     alloc: Global,
     prepared: &Prepared,
@@ -90,7 +91,7 @@ fn visit_new(
 ) -> Result<Sweep, NoMemory>
     requires base { IsBase cube.now first.now }
     requires visited { AreVisited (world_in prepared.now version) cube.now first.now spots.now.keys visits.now.items }
-    ensures sweep { IfOk result (λ answer. OfSweep (world_in prepared.now version) cube.now first.now spots.old.keys spots.new.keys visits.new.items answer) }
+    ensures sweep { IfOk result (λ answer. OfSweep (world_in prepared.now version) cube.now first.now visits.old.items spots.old.keys spots.new.keys visits.new.items answer) }
     ensures spots { OnOk result (Extends spots.old.keys spots.new.keys) }
     ensures visits { OnOk result (Extends visits.old.items visits.new.items) }
 {

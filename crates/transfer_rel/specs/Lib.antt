@@ -1,2 +1,4 @@
 pub mod CubeMoves
+pub mod Entries
+pub mod Halves
 pub mod Stages

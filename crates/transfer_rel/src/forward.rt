@@ -1,6 +1,6 @@
 //! Forwarding: what a device does with the destination, and each choice of the lookup.
 
-ghost use Rattle.std.specs.Prelude.{◌≡◌, ◌∷◌, [], ℕ, Some, Contains, IfOk, OnOk, map, slice_get, true};
+ghost use Rattle.std.specs.Prelude.{◌≡◌, ◌∷◌, ◌↔◌, [], ℕ, Some, Contains, IfOk, IsTrue, OnOk, map, slice_get, true};
 ghost use Rattle.hdr_bits.specs.declared.header.Header.{Header};
 ghost use Rattle.hdr_bits.specs.HeaderBits.{number, IsHeader};
 ghost use Rattle.hdr_bits.specs.CubeBits.{IsIn};
@@ -202,8 +202,8 @@ fn same_move(a: &StampMove, b: &StampMove) -> bool
     }
 }
 
-fn same_place(p: Place, q: Place) -> bool
-    ensures { result ≡ true → p ≡ q }
+pub(crate) fn same_place(p: Place, q: Place) -> bool
+    ensures { IsTrue result ↔ (p ≡ q) }
 {
     p == q
 }
