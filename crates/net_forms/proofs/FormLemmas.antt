@@ -22,11 +22,13 @@ use Rattle.hdr_bits.specs.Lists.{Extends}
 use Rattle.hdr_bits.proofs.ListLemmas.{extends_get, extends_none, extends_then}
 use Rattle.device_fates.specs.Fates.{HasFate}
 use Rattle.net_forms.specs.declared.forms.DeviceForm.{DeviceForm}
+use Rattle.net_forms.specs.declared.forms.DeviceLists.{DeviceLists}
 use Rattle.net_forms.specs.declared.forms.KnownList.{KnownList}
 use Rattle.net_forms.specs.declared.forms.SeatForm.{SeatForm}
 use Rattle.net_forms.specs.declared.forms.Tables.{Tables}
 use Rattle.net_forms.specs.Along.{AreAlong}
 use Rattle.net_forms.specs.Forms.{IsList, IsKnown, IsSeatForm, AreSeatForms, IsDeviceForm, IsFormOfSeat, TablesGrow, list_in}
+use Rattle.net_forms.specs.Known.{AreKnownLists, known_at}
 use Rattle.net_forms.specs.declared.forms.NetworkForm.{NetworkForm}
 use Rattle.net_forms.specs.Networks.{AreDevices, IsCopy, IsFormIn, IsNetworkForm}
 use Rattle.net_forms.proofs.FindLemmas.{at_position, found, not_found, there}
@@ -84,6 +86,9 @@ list_kept f g list n k a =
 
 pub known_kept : (f g : Functions) (lists : List AccessList) (known : List KnownList) → Keeps f g → All (IsKnown f lists) known → All (IsKnown g lists) known
 known_kept f g lists known k a = All-weaker (IsKnown f lists) (IsKnown g lists) (λ x r. list_kept f g (slice_get lists x.position) x.function k r) known a
+
+pub lists_kept : (f g : Functions) (ds : List NetDevice) (known : List DeviceLists) → Keeps f g → AreKnownLists f ds known → AreKnownLists g ds known
+lists_kept f g ds known k a n d e = known_kept f g d.config.lists (known_at known n) k (a n d e)
 
 pub seat_kept : (f g : Functions) (c : Config) (i : Interface) (x : SeatForm) → Keeps f g → IsSeatForm f c i x → IsSeatForm g c i x
 seat_kept f g c i x k a = record { input = list_kept f g _ x.input k a.input; output = list_kept f g _ x.output k a.output }

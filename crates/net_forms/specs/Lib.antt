@@ -1,5 +1,6 @@
 pub mod Along
 pub mod Forms
+pub mod Known
 pub mod Networks
 pub mod Pairs
 pub mod Seats

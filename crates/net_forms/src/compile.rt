@@ -8,9 +8,10 @@ ghost use Rattle.net_types.specs.Moves.{list_named};
 ghost use Rattle.net_view.specs.Borrowed.{world_of};
 ghost use Rattle.net_types.specs.Routes.{same_text};
 ghost use Rattle.net_forms.specs.Forms.{AreSeatForms, IsDeviceForm, IsKnown, IsList, TablesGrow, list_in};
+ghost use Rattle.net_forms.specs.Known.{AreKnownLists, known_at};
 ghost use Rattle.net_forms.specs.Networks.{AreDevices, IsCopy, IsFormIn, IsIndexed, IsNetworkForm};
 
-use crate::forms::{DeviceForm, KnownList, NetworkForm, SeatForm, Tables};
+use crate::forms::{DeviceForm, DeviceLists, KnownList, NetworkForm, SeatForm, Tables};
 use crate::seat::device_named;
 use acl_match::add_list;
 use cube_diagram::Diagrams;
@@ -23,24 +24,33 @@ use net_view::{WorldRef, same_text};
 use std::alloc::Global;
 
 /// The form of the network, in these tables. `known` is a network that was compiled before in the same tables, if one was:
-/// an equal device has the same form in both.
+/// an equal device has the same form in both. `lists` has for each device, as far as it goes, the lists whose functions the
+/// tables have already: no other function is made of these.
 ///
 /// # Errors
 ///
-/// There was no memory, or a device lacks the number of an interface.
+/// There was no memory.
 pub fn compile_network<'a>(
     alloc: Global,
     tables: &mut Tables,
     world: WorldRef<'a>,
     known: Option<&NetworkForm>,
+    lists: &[DeviceLists],
 ) -> Result<NetworkForm<'a>, NoMemory>
-    requires { IfSome known (λ n. IsNetworkForm tables.old.diagrams tables.old.fates n.now) }
+    requires known { IfSome known (λ n. IsNetworkForm tables.old.diagrams tables.old.fates n.now) }
+    requires lists { AreKnownLists tables.old.diagrams world.network.now.devices lists.now }
     ensures form { IfOk result (λ n. IsNetworkForm tables.new.diagrams tables.new.fates n) }
     ensures world { IfOk result (λ n. n.world ≡ world.entry) }
     ensures kept { OnOk result (TablesGrow tables.old tables.new) }
 {
     let wiring = Wiring::of(alloc, world)?;
-    let devices = compile_devices(alloc, tables, known, world.network.devices.as_slice())?;
+    let devices = compile_devices(
+        alloc,
+        tables,
+        known,
+        world.network.devices.as_slice(),
+        lists,
+    )?;
     Ok(NetworkForm {
         world,
         devices,
@@ -53,17 +63,29 @@ fn compile_devices(
     tables: &mut Tables,
     known: Option<&NetworkForm>,
     devices: &[NetDevice],
+    lists: &[DeviceLists],
 ) -> Result<Vec<DeviceForm>, NoMemory>
-    requires { IfSome known (λ n. IsNetworkForm tables.old.diagrams tables.old.fates n.now) }
+    requires known { IfSome known (λ n. IsNetworkForm tables.old.diagrams tables.old.fates n.now) }
+    requires lists { AreKnownLists tables.old.diagrams devices.now lists.now }
     ensures forms { IfOk result (λ r. AreDevices tables.new.diagrams tables.new.fates devices.now r.items) }
     ensures kept { OnOk result (TablesGrow tables.old tables.new) }
 {
     let mut forms = Vec::new(alloc);
-    for device in devices {
-        let form = known_or_compiled(alloc, tables, known, device)?;
+    for i in 0..devices.len() {
+        let form = known_or_compiled(alloc, tables, known, &devices[i], known_lists(lists, i))?;
         forms.push(form)?;
     }
     Ok(forms)
+}
+
+// The lists that are known of the device at this position.
+fn known_lists(lists: &[DeviceLists], i: usize) -> &[KnownList]
+    ensures { result.now ≡ known_at lists.now i }
+{
+    match lists.get(i) {
+        Some(known) => &known.lists,
+        None => &[],
+    }
 }
 
 // The form that the known network has of an equal device, else a new one.
@@ -72,16 +94,18 @@ fn known_or_compiled(
     tables: &mut Tables,
     known: Option<&NetworkForm>,
     device: &NetDevice,
+    lists: &[KnownList],
 ) -> Result<DeviceForm, NoMemory>
-    requires { IfSome known (λ n. IsNetworkForm tables.old.diagrams tables.old.fates n.now) }
+    requires known { IfSome known (λ n. IsNetworkForm tables.old.diagrams tables.old.fates n.now) }
+    requires lists { All (IsKnown tables.old.diagrams device.now.config.lists) lists.now }
     ensures form { IfOk result (λ f. IsDeviceForm tables.new.diagrams tables.new.fates device.now f) }
     ensures kept { OnOk result (TablesGrow tables.old tables.new) }
 {
     let Some(network) = known else {
-        return compile_device(alloc, tables, device);
+        return compile_device(alloc, tables, device, lists);
     };
     let Some(form) = known_form(network, device) else {
-        return compile_device(alloc, tables, device);
+        return compile_device(alloc, tables, device, lists);
     };
     copy_of(alloc, form)
 }
@@ -118,16 +142,15 @@ fn compile_device(
     alloc: Global,
     tables: &mut Tables,
     device: &NetDevice,
+    lists: &[KnownList],
 ) -> Result<DeviceForm, NoMemory>
+    requires { All (IsKnown tables.old.diagrams device.now.config.lists) lists.now }
     ensures form { IfOk result (λ f. IsDeviceForm tables.new.diagrams tables.new.fates device.now f) }
     ensures kept { OnOk result (TablesGrow tables.old tables.new) }
 {
     let config = &device.config;
     let rules = config.nat.as_slice();
-    if device.numbers.as_slice().len() < config.interfaces.as_slice().len() {
-        return Err(NoMemory);
-    }
-    let seats = compile_seats(alloc, &mut tables.diagrams, config)?;
+    let seats = compile_seats(alloc, &mut tables.diagrams, config, lists)?;
     let pieces = outside_pieces(alloc, rules)?;
     let outside = tables.diagrams.first_match(&pieces)?;
     let pieces = outer_outside_pieces(alloc, rules)?;
@@ -147,17 +170,19 @@ fn compile_device(
     })
 }
 
-// The lists of each interface.
+// The lists of each interface. What is known of them at first is known of more of them as these are met.
 fn compile_seats(
     alloc: Global,
     diagrams: &mut Diagrams,
     config: &Config,
+    known: &[KnownList],
 ) -> Result<Vec<SeatForm>, NoMemory>
+    requires { All (IsKnown diagrams.old config.now.lists) known.now }
     ensures seats { IfOk result (λ r. AreSeatForms diagrams.new config.now config.now.interfaces r.items) }
     ensures kept { OnOk result (Keeps diagrams.old diagrams.new) }
 {
     let lists = config.lists.as_slice();
-    let mut known = Vec::new(alloc);
+    let mut known = known.to_vec(alloc)?;
     let mut seats = Vec::new(alloc);
     for interface in config.interfaces.as_slice() {
         let input = list_function(alloc, diagrams, lists, &mut known, &interface.input)?;

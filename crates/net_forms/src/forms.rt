@@ -43,9 +43,15 @@ pub struct SeatForm {
 
 /// The function of a list of a device, by the list's position.
 #[derive(Clone, Copy)]
-pub(crate) struct KnownList {
-    pub(crate) position: usize,
-    pub(crate) function: u32,
+pub struct KnownList {
+    pub position: usize,
+    pub function: u32,
+}
+
+/// The lists of a device whose functions are known before the device is compiled.
+#[derive(Drop)]
+pub struct DeviceLists {
+    pub lists: Vec<KnownList>,
 }
 
 /// The functions of a device.

@@ -12,7 +12,7 @@ mod seat;
 mod version;
 
 pub use compile::compile_network;
-pub use forms::{DeviceForm, NetworkForm, SeatForm, Tables};
+pub use forms::{DeviceForm, DeviceLists, KnownList, NetworkForm, SeatForm, Tables};
 pub use prepared::{Prepared, PreparedForms, PreparedParts};
 pub use seat::{
     CompiledSeat, FormedDevice, FormedSeat, device_named, formed_named, formed_numbered, seat_at,

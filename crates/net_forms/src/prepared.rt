@@ -1,6 +1,6 @@
 use crate::Version;
 use crate::compile::compile_network;
-use crate::forms::{NetworkForm, Tables};
+use crate::forms::{DeviceLists, NetworkForm, Tables};
 use crate::seat::{CompiledSeat, seat_at};
 use indexmap::IndexSet;
 use like_devices::{has_name, like_devices};
@@ -54,6 +54,7 @@ impl<'a> Prepared<'a> {
     ghost use Rattle.net_view.specs.Borrowed.{seat_of, world_of};
     ghost use Rattle.like_devices.specs.Like.{IsLike};
     ghost use Rattle.net_types.specs.World.{seat_at};
+    ghost use Rattle.net_forms.specs.Known.{AreKnownLists};
     ghost use Rattle.net_forms.specs.Pairs.{ArePreparedForms, ArePreparedParts};
     ghost use Rattle.net_forms.specs.Seats.{StandsIn};
     ghost use Rattle.net_forms.specs.Worlds.{world_in};
@@ -62,14 +63,34 @@ impl<'a> Prepared<'a> {
     ///
     /// # Errors
     ///
-    /// There was no memory, or a device lacks the number of an interface.
+    /// There was no memory.
     pub fn of(alloc: Global, old: WorldRef<'a>, new: WorldRef<'a>) -> Result<Prepared<'a>, NoMemory>
         ensures { IfOk result (λ p. p ≡ record { old = world_of old.entry; new = world_of new.entry }) }
     {
-        let mut tables = Tables::new(alloc)?;
-        let before = compile_network(alloc, &mut tables, old, None)?;
+        let tables = Tables::new(alloc)?;
+        Prepared::with_lists(alloc, tables, old, new, &[], &[])
+    }
+
+    /// Compiles two networks in these tables, which have the functions of some lists of the devices of both already.
+    ///
+    /// # Errors
+    ///
+    /// There was no memory.
+    pub fn with_lists(
+        alloc: Global,
+        mut tables: Tables,
+        old: WorldRef<'a>,
+        new: WorldRef<'a>,
+        old_lists: &[DeviceLists],
+        new_lists: &[DeviceLists],
+    ) -> Result<Prepared<'a>, NoMemory>
+        requires old { AreKnownLists tables.diagrams old.network.now.devices old_lists.now }
+        requires new { AreKnownLists tables.diagrams new.network.now.devices new_lists.now }
+        ensures { IfOk result (λ p. p ≡ record { old = world_of old.entry; new = world_of new.entry }) }
+    {
+        let before = compile_network(alloc, &mut tables, old, None, old_lists)?;
         let known = Some(&before);
-        let after = compile_network(alloc, &mut tables, new, known)?;
+        let after = compile_network(alloc, &mut tables, new, known, new_lists)?;
         let like = like_devices(alloc, old, new, &before.wiring, &after.wiring)?;
         Ok(Prepared {
             tables,

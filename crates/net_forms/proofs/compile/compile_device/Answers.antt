@@ -1,14 +1,12 @@
-use Rattle.std.proofs.Common.{length, ap, ◌∙◌, arith}
+use Rattle.std.proofs.Common.{◌∙◌, arith}
 use Rattle.hdr_bits.specs.HeaderBits.{number}
 use Rattle.net_forms.proofs.FormLemmas.{device_made}
 use Rattle.net_forms.proofs.compile.compile_device.Goals as goal
 
 pub returns-clause-form : goal.returns-clause-form
 returns-clause-form c =
-    let a = ap length c.as_slice.ensures in
-    let b = ap length c.as_slice-2.ensures in
-    let few = c.if-as_slice.false in
-    device_made c.args.device.now _ c.compile_seats.new.diagrams c.first_match.new.self c.first_match-2.new.self c.first_match-3.new.self c.first_match-4.new.self c.add_device.new.diagrams c.add_device.new.fates (omega (arith, a, b, few))
+    let same = c.args.device.now.numbered in
+    device_made c.args.device.now _ c.compile_seats.new.diagrams c.first_match.new.self c.first_match-2.new.self c.first_match-3.new.self c.first_match-4.new.self c.add_device.new.diagrams c.add_device.new.fates (omega (arith, same))
     c.in_ok-seats.ensures.seats
     c.in_ok-outside.ensures.kept c.in_ok-outer_outside.ensures.kept c.in_ok-inside.ensures.kept c.in_ok-outer_inside.ensures.kept c.in_ok-fates.ensures.kept
     (record { below = c.in_ok-outside.ensures.below; exact = λ h v. (let e = c.in_ok-outside.ensures.exact (number h) in (rw c.deref.ensures.value at e) ∙ (rw c.as_slice-rules.ensures at (c.in_ok-pieces.ensures h v))) })

@@ -1,14 +1,29 @@
-use Rattle.net_forms.proofs.FormLemmas.{devices_more, tables_then, known_kept_in}
+use Rattle.std.proofs.Common.{List, All, sym, refl, subst, length}
+use Rattle.std.proofs.lemmas.Option.{slice_get_read}
+use Rattle.net_forms.specs.declared.forms.KnownList.{KnownList}
+use Rattle.net_forms.specs.Forms.{IsKnown}
+use Rattle.net_forms.proofs.FormLemmas.{devices_more, tables_then, known_kept_in, lists_kept}
 use Rattle.net_forms.proofs.compile.compile_devices.Goals as goal
 
-pub known_or_compiled-requires : goal.known_or_compiled-requires
-known_or_compiled-requires c = c.loop-device.invariant.known
+pub known_or_compiled-requires-clause-known : goal.known_or_compiled-requires-clause-known
+known_or_compiled-requires-clause-known c = c.loop-i.invariant.known
 
-pub loop-device-preserved : goal.loop-device-preserved
-loop-device-preserved c =
-    let i = c.loop-device.invariant in
+pub known_or_compiled-requires-clause-lists : goal.known_or_compiled-requires-clause-lists
+known_or_compiled-requires-clause-lists c =
+    let ds = c.args.devices.now in
+    let i = c.loop-i.i in
+    let d = c.index-devices-i.result in
+    subst (λ (ks : List KnownList). All (IsKnown c.loop-i.tables.diagrams d.config.lists) ks) (sym c.known_lists.ensures) (c.loop-i.invariant.lists i d (slice_get_read ds (length ds) i d refl c.loop-i-test.true c.index-devices-i.is))
+
+pub loop-i-preserved : goal.loop-i-preserved
+loop-i-preserved c =
+    let i = c.loop-i.invariant in
+    let a = c.loop-i.tables in
+    let b = c.known_or_compiled.new.tables in
+    let grow = c.in_ok-form.ensures.kept in
     record {
-      kept = tables_then c.args.tables.now c.loop-device.tables c.known_or_compiled.new.tables i.kept c.in_ok-form.ensures.kept;
-      known = known_kept_in c.loop-device.tables c.known_or_compiled.new.tables c.args.known c.in_ok-form.ensures.kept i.known;
-      forms = rw c.in_ok-push.ensures.items (devices_more c.loop-device.tables c.known_or_compiled.new.tables c.args.devices.now c.loop-device.forms.items c.loop-device.device-index c.device-item.result c.in_ok-form.form c.loop-device-test.true c.device-item.is c.in_ok-form.ensures.kept i.forms c.in_ok-form.ensures.form);
+      kept = tables_then c.args.tables.now a b i.kept grow;
+      known = known_kept_in a b c.args.known grow i.known;
+      lists = lists_kept a.diagrams b.diagrams c.args.devices.now c.args.lists.now grow.diagrams i.lists;
+      forms = rw c.in_ok-push.ensures.items (devices_more a b c.args.devices.now c.loop-i.forms.items c.loop-i.i c.index-devices-i.result c.in_ok-form.form c.loop-i-test.true c.index-devices-i.is grow i.forms c.in_ok-form.ensures.form);
     }

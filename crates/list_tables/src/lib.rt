@@ -1,0 +1,13 @@
+//! Long access lists of two networks, made functions by several workers beside one another, before the networks are compiled.
+//!
+//! Each worker has a table of its own for its lists, and they are copied from there to the table of both networks. So what is
+//! compiled is the same as without workers, and only the time differs.
+#![tactic(auto)]
+
+mod known;
+mod lists;
+mod prepared;
+mod shares;
+mod wanted;
+
+pub use prepared::prepared_by_workers;

@@ -1,0 +1,121 @@
+//! Which lists are made beforehand, and by whom. The choice changes no answer, so no clause speaks of it.
+
+use crate::lists::{BothDevices, ListPosition};
+use device_equality::same_device;
+use indexmap::IndexMap;
+use net_forms::Version;
+use net_types::{Config, Interface, NetDevice, NoMemory, Text};
+use net_view::same_text;
+use std::alloc::Global;
+
+/// A list of fewer entries is made about as soon as it is copied from one table to another.
+const MANY_ENTRIES: usize = 64;
+
+/// A list that is to be made beforehand.
+#[derive(Clone, Copy)]
+pub(crate) struct WantedList {
+    pub(crate) at: ListPosition,
+    /// The number of its device's name.
+    pub(crate) name: u32,
+    pub(crate) entries: usize,
+    /// The worker who makes it, from 0.
+    pub(crate) worker: usize,
+}
+
+/// The long lists that interfaces name, each with its worker. Of a device that both networks have alike it has those of the
+/// old one, since such a device is compiled once.
+pub(crate) fn wanted_lists(
+    alloc: Global,
+    both: BothDevices,
+    workers: u32,
+) -> Result<Vec<WantedList>, NoMemory> {
+    let mut wanted = Vec::new(alloc);
+    let mut positions = IndexMap::new(alloc);
+    for i in 0..both.old.len() {
+        let device = &both.old[i];
+        positions.insert(device.name, i)?;
+        add_wanted(device, Version::Old, i, &mut wanted)?;
+    }
+    for i in 0..both.new.len() {
+        let device = &both.new[i];
+        if !is_known(both.old, &positions, device) {
+            add_wanted(device, Version::New, i, &mut wanted)?;
+        }
+    }
+    // Two versions of a list stand together, and mostly with one worker, whose table has what they share once.
+    wanted.sort_by_key(|w| (w.name, w.at.list))?;
+    share_out(&mut wanted, workers as usize);
+    Ok(wanted)
+}
+
+// Whether the old network has an equal device.
+fn is_known(old: &[NetDevice], positions: &IndexMap<u32, usize>, device: &NetDevice) -> bool {
+    let Some(position) = positions.get(&device.name) else {
+        return false;
+    };
+    let Some(known) = old.get(*position) else {
+        return false;
+    };
+    same_device(known, device)
+}
+
+// The long lists of a device that its interfaces name.
+fn add_wanted(
+    device: &NetDevice,
+    version: Version,
+    position: usize,
+    wanted: &mut Vec<WantedList>,
+) -> Result<(), NoMemory> {
+    let lists = device.config.lists.as_slice();
+    for list in 0..lists.len() {
+        let entries = lists[list].entries.as_slice().len();
+        if entries >= MANY_ENTRIES && is_used(&device.config, &lists[list].name) {
+            let at = ListPosition {
+                version,
+                device: position,
+                list,
+            };
+            wanted.push(WantedList {
+                at,
+                name: device.name,
+                entries,
+                worker: 0,
+            })?;
+        }
+    }
+    Ok(())
+}
+
+// Whether an interface names a list of this name.
+fn is_used(config: &Config, name: &Text) -> bool {
+    config.interfaces.as_slice().iter().any(|i| names(i, name))
+}
+
+fn names(interface: &Interface, name: &Text) -> bool {
+    is_name(&interface.input, name) || is_name(&interface.output, name)
+}
+
+fn is_name(named: &Option<Text>, name: &Text) -> bool {
+    match named {
+        None => false,
+        Some(named) => same_text(named.as_bytes(), name.as_bytes()),
+    }
+}
+
+// Each worker has lists that stand together, and about as many entries as any other.
+fn share_out(wanted: &mut [WantedList], workers: usize) {
+    let mut all: usize = 0;
+    for list in 0..wanted.len() {
+        all = all.saturating_add(wanted[list].entries);
+    }
+    let mut worker: usize = 0;
+    let mut entries: usize = 0;
+    for list in 0..wanted.len() {
+        wanted[list].worker = worker;
+        entries = entries.saturating_add(wanted[list].entries);
+        if entries.saturating_mul(workers) >= all {
+            worker = worker.saturating_add(1);
+            entries = 0;
+        }
+    }
+}
