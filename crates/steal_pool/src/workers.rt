@@ -20,8 +20,8 @@ use std::thread;
 use std::thread::Threads;
 use task_board::{Board, Leaf};
 
-// How many regions can be pushed to one lane.
-const CAPACITY: usize = 16_384;
+// How many regions can be pushed to all lanes. Those that find no room are left to the calling thread.
+const CAPACITY: usize = 262_144;
 
 // In so many rounds one thief is split into 64.
 const ROUNDS: u32 = 6;
@@ -88,6 +88,13 @@ fn crowd(alloc: Global, first: Thief, count: usize) -> Result<Vec<Thief>, NoMemo
     Ok(thieves)
 }
 
+// How many regions can be pushed to each of so many lanes.
+fn capacity_of(lanes: usize) -> usize
+    ensures { (1 ≤ result) × (result ≤ 1048576) }
+{
+    (CAPACITY / lanes.max(4)).max(1)
+}
+
 // A seat for each worker.
 fn seats(alloc: Global, count: usize) -> Result<Vec<Seat>, NoMemory>
     ensures { IfOk result (λ v. vec_len v ≡ count) }
@@ -95,7 +102,7 @@ fn seats(alloc: Global, count: usize) -> Result<Vec<Seat>, NoMemory>
     let mut seats = Vec::new(alloc);
     let mut crowds = Vec::new(alloc);
     for number in 0..count {
-        let (owner, first) = lane(alloc, CAPACITY)?;
+        let (owner, first) = lane(alloc, capacity_of(count))?;
         seats.push(Seat {
             owner,
             thieves: Vec::new(alloc),
