@@ -72,8 +72,8 @@ impl LabelPairs {
     }
 }
 
-// A label of outcomes that are one.
-fn label_of(alloc: Global, outcomes: &[Outcome]) -> Result<Label, NoMemory>
+/// A label of outcomes that are one.
+pub(crate) fn label_of(alloc: Global, outcomes: &[Outcome]) -> Result<Label, NoMemory>
     requires { IsLabel outcomes.now }
     ensures { IfOk result (λ label. label ≡ outcomes.now) }
 {

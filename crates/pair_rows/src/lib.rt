@@ -8,6 +8,7 @@
 mod function;
 mod kept;
 mod label_pairs;
+mod leaf_pairs;
 mod leaves;
 mod rows;
 mod splitter;

@@ -4,7 +4,7 @@ ghost use Rattle.std.specs.Prelude.{◌≡◌, ◌<◌, ◌^◌, ◌++◌, ◌�
 ghost use Rattle.canon_rows.specs.Pieces.{value_of};
 ghost use Rattle.pair_rows.specs.Pairs.{Pair, AreDistinct, IsNumberOf, AreRowsWithPairs, shown, shown_by};
 
-use crate::label_pairs::LabelPairs;
+use crate::leaf_pairs::LeafPairs;
 use canon_rows::{Piece, canon};
 use net_types::{NoMemory, Row};
 use std::alloc::Global;
@@ -14,7 +14,7 @@ use std::alloc::Global;
 pub(crate) fn rows_of_pieces(
     alloc: Global,
     pieces: &[Piece],
-    pairs: &LabelPairs,
+    pairs: &LeafPairs,
 ) -> Result<Vec<Row>, NoMemory>
     requires { AreDistinct pairs.now }
     ensures { IfOk result (λ rows. (g : ℕ → Option Pair) → ((h : ℕ) → h < 2 ^ 112 → IsNumberOf pairs.now (value_of pieces.now h) (g h)) → AreRowsWithPairs g rows.items) }
@@ -25,7 +25,7 @@ pub(crate) fn rows_of_pieces(
 }
 
 // The pieces as rows, with the labels of their numbers.
-fn shown_rows(alloc: Global, pieces: &[Piece], pairs: &LabelPairs) -> Result<Vec<Row>, NoMemory>
+fn shown_rows(alloc: Global, pieces: &[Piece], pairs: &LeafPairs) -> Result<Vec<Row>, NoMemory>
     ensures { IfOk result (λ rows. map shown rows.items ≡ filter_map (shown_by pairs.now) pieces.now) }
 {
     let mut rows = Vec::with_capacity(alloc, pieces.len())?;
@@ -38,7 +38,7 @@ fn shown_rows(alloc: Global, pieces: &[Piece], pairs: &LabelPairs) -> Result<Vec
 fn add_row(
     alloc: Global,
     piece: &Piece,
-    pairs: &LabelPairs,
+    pairs: &LeafPairs,
     rows: &mut Vec<Row>,
 ) -> Result<(), NoMemory>
     ensures { OnOk result (map shown rows.new.items ≡ map shown rows.old.items ++ filter_map (shown_by pairs.now) (piece.now ∷ [])) }

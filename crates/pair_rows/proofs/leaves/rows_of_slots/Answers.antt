@@ -15,4 +15,4 @@ returns-clause-rows g c leaves a k s at =
     let there : slice_get made k ≡ Some m = subst (λ (xs : List MadeRows). slice_get xs k ≡ Some m) same (c.in_ok-all.ensures.made k s at) in
     let within = slice_get_within made k m there in
     let is = c.make_rows.ensures.made k m (omega (arith, within, count)) in
-    subst (λ (r : MadeRows). IsMade c.args.pairs.now c.args.sorted.now k r) (index_there made k m m there) is leaves a
+    subst (λ (r : MadeRows). IsMade c.args.sorted.now k r) (index_there made k m m there) is leaves a

@@ -13,6 +13,5 @@ loop-leaf-preserved c =
     record {
       count = c.add_leaf.ensures.count ∙ c.loop-leaf.invariant.count;
       done = ap (λ (ls : List (Leaf Pair)). ls ++ c.next.new.self) more ∙ append_assoc done (leaf ∷ []) c.next.new.self ∙ ap (λ (ls : List (Leaf Pair)). done ++ ls) (sym c.in-Some.ensures.steps) ∙ c.loop-leaf.invariant.done;
-      sorted = subst (λ (ls : List (Leaf Pair)). AreSorted c.add_leaf.new.pairs ls c.add_leaf.new.all.items) (sym more) (c.in_ok-add_leaf.ensures.sorted done c.loop-leaf.invariant.sorted);
-      distinct = c.in_ok-add_leaf.ensures.distinct;
+      sorted = subst (λ (ls : List (Leaf Pair)). AreSorted ls c.add_leaf.new.all.items) (sym more) (c.in_ok-add_leaf.ensures.sorted done c.loop-leaf.invariant.sorted);
     }
