@@ -7,7 +7,6 @@ ghost use Rattle.ask_query.specs.Shared.{IsAsked, IsNamed};
 use crate::answers::answers_within;
 use crate::shared::{Asked, Asking, SlotAnswers};
 use crate::slots::numbers_in;
-use crate::twin::Twins;
 use cube_alg::Region;
 use cube_diagram::Diagrams;
 use net_types::NoMemory;
@@ -15,18 +14,19 @@ use std::alloc::Global;
 use std::marker::{Model, PhantomData};
 use std::sync::Wait;
 use steal_pool::{Splitter, Worked};
+use table_twins::{Base, Twins};
 use task_board::Meaning;
 
 /// What answers the questions of a slot: what is asked, and the tables in which workers walk.
 #[derive(Drop)]
-pub(crate) struct Answering<'a, R, K: Asking> {
+pub(crate) struct Answering<'a, R, K: Asking + Base> {
     rt: &'a R,
     base: Option<&'a Diagrams>,
     twins: &'a Twins<K>,
     asked: &'a Asked<'a>,
 }
 
-impl<'a, R, K: Asking> Model for Answering<'a, R, K> {
+impl<'a, R, K: Asking + Base> Model for Answering<'a, R, K> {
     ghost use Rattle.std.specs.Prelude.{◌≡◌, IfSome, List};
     ghost use Rattle.net_types.specs.declared.question.Question.{Question};
     ghost use Rattle.ask_query.specs.Shared.{IsAsked, IsNamed};
@@ -41,7 +41,7 @@ impl<'a, R, K: Asking> Model for Answering<'a, R, K> {
         × IsNamed K.world K.ttl K.questions K.slots s.asked.now };
 }
 
-impl<'a, R, K: Asking> Answering<'a, R, K> {
+impl<'a, R, K: Asking + Base> Answering<'a, R, K> {
     pub(crate) fn of(
         rt: &'a R,
         base: Option<&'a Diagrams>,
@@ -61,7 +61,7 @@ impl<'a, R, K: Asking> Answering<'a, R, K> {
     }
 }
 
-impl<'a, R: Wait, K: Asking> Answering<'a, R, K> {
+impl<'a, R: Wait, K: Asking + Base> Answering<'a, R, K> {
     // The answers of a slot. The table goes back also where there was no memory for them, so that another worker finds it.
     fn answers_in(&self, alloc: Global, slot: u32) -> Result<SlotAnswers<K>, NoMemory>
         ensures { IfOk result (λ answers. answers ≡ slot) }
@@ -94,13 +94,13 @@ impl<'a, R: Wait, K: Asking> Answering<'a, R, K> {
 ///
 /// Its meaning is named by its type, so any two are equal.
 #[derive_where(Clone, Copy, PartialEq, Eq)]
-pub(crate) struct BySlots<'a, R, K: Asking> {
+pub(crate) struct BySlots<'a, R, K: Asking + Base> {
     #[derive_where(skip)]
     pub(crate) source: &'a Answering<'a, R, K>,
     pub(crate) asking: PhantomData<K>,
 }
 
-impl<'a, R, K: Asking + Send + Sync> Meaning for BySlots<'a, R, K> {
+impl<'a, R, K: Asking + Base + Send + Sync> Meaning for BySlots<'a, R, K> {
     ghost use Rattle.std.specs.Prelude.{Some, refl};
 
     type Value = SlotAnswers<K>;
@@ -110,7 +110,7 @@ impl<'a, R, K: Asking + Send + Sync> Meaning for BySlots<'a, R, K> {
     ghost same = { λ a b e slot h. refl };
 }
 
-impl<'a, R: Wait, K: Asking + Send + Sync> Splitter for BySlots<'a, R, K> {
+impl<'a, R: Wait, K: Asking + Base + Send + Sync> Splitter for BySlots<'a, R, K> {
     fn work(&self, alloc: Global, region: &Region) -> Result<Worked<SlotAnswers<K>>, NoMemory> {
         let value = self.source.answers_in(alloc, region.slot)?;
         Ok(Worked::Whole { value })

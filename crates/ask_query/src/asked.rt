@@ -11,7 +11,8 @@ ghost use Rattle.ask_query.specs.WholeNets.{HasAll};
 
 use crate::workers::answers_by;
 use cube_diagram::Diagrams;
-use net_forms::{Prepared, PreparedParts, Tables};
+use list_tables::prepared_by_workers;
+use net_forms::{PreparedParts, Tables};
 use net_types::{Answer, Links, Network, NoMemory, Question};
 use net_view::WorldRef;
 use place_ways::{BothWays, ways_of_both};
@@ -59,7 +60,7 @@ fn answer_world<G: Gate + Sync, R: Threads + Wait + Sync>(
     requires workers { (1 ≤ workers) × (workers ≤ 64) }
     ensures { IfOk result (λ answers. AreAnswers (world_of world.entry) ttl questions.now answers.items) }
 {
-    let prepared = Prepared::of(alloc, world, world)?;
+    let prepared = prepared_by_workers(rt, alloc, world, world, workers)?;
     let answers = answers_of(
         rt,
         alloc,

@@ -17,7 +17,6 @@ mod refusal;
 mod shared;
 mod slots;
 mod text;
-mod twin;
 mod workers;
 
 pub use asked::answer;

@@ -19,17 +19,14 @@ pub(crate) struct Asked<'a> {
     pub(crate) slots: &'a [Slot],
 }
 
-/// What is asked, and the table that all workers read.
+/// What is asked of all workers.
 ///
 /// What workers share is known by its type alone. So these are named by a type, which has no values.
 pub(crate) trait Asking {
     ghost use Rattle.std.specs.Prelude.{ℕ, List};
-    ghost use Rattle.cube_diagram.specs.Functions.{Functions};
     ghost use Rattle.net_types.specs.declared.question.Question.{Question};
     ghost use Rattle.net_types.specs.World.{World};
     ghost use Rattle.ask_query.specs.declared.slots.Slot.{Slot};
-
-    ghost base: { Functions };
 
     ghost world: { World };
 
@@ -42,8 +39,6 @@ pub(crate) trait Asking {
 
 impl Asking for Brand {
     ghost use Rattle.std.specs.Prelude.{[]};
-
-    ghost base = { [] };
 
     ghost world = { record { network = record { devices = [] }; links = record { segments = []; ingress = [] } } };
 

@@ -13,7 +13,6 @@ use crate::answers::filtered;
 use crate::gathering::answers_of_leaves;
 use crate::shared::{Asked, Asking};
 use crate::slots::slots_of;
-use crate::twin::Twins;
 use cube_alg::Region;
 use cube_diagram::Diagrams;
 use hdr_bits::Cube;
@@ -24,6 +23,7 @@ use std::marker::{Brand, PhantomData};
 use std::sync::Wait;
 use std::thread::Threads;
 use steal_pool::{Gate, roots_of, run};
+use table_twins::{Base, Twins};
 
 /// The answers to the questions, in their order. A slot is worked on by one worker; what all share is made before.
 pub(crate) fn answers_by<G: Gate + Sync, R: Threads + Wait + Sync>(
@@ -73,7 +73,7 @@ fn answers_by_slots<G: Gate + Sync, R: Threads + Wait + Sync>(
 }
 
 // Several workers walk in copies of the table. One walks in the table itself, and so it does where there is one slot.
-fn answers_in_twins<K: Asking + Send + Sync, G: Gate + Sync, R: Threads + Wait + Sync>(
+fn answers_in_twins<K: Asking + Base + Send + Sync, G: Gate + Sync, R: Threads + Wait + Sync>(
     rt: &R,
     alloc: Global,
     table: Diagrams,
@@ -98,7 +98,7 @@ fn answers_in_twins<K: Asking + Send + Sync, G: Gate + Sync, R: Threads + Wait +
 }
 
 // By workers who walk in these twins of the base.
-fn answers_shared<K: Asking + Send + Sync, G: Gate + Sync, R: Threads + Wait + Sync>(
+fn answers_shared<K: Asking + Base + Send + Sync, G: Gate + Sync, R: Threads + Wait + Sync>(
     rt: &R,
     alloc: Global,
     base: Option<&Diagrams>,

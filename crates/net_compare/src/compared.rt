@@ -11,7 +11,6 @@ ghost use Rattle.net_compare.specs.Slots.{affected_in};
 
 use crate::ingress::pairs_at;
 use crate::pairs::no_pairs;
-use crate::twin::Base;
 use cube_diagram::Diagrams;
 use difference_reach::Reach;
 use net_types::{NoMemory, Place};
@@ -19,6 +18,7 @@ use pair_rows::{PairFunction, Pairing};
 use set_walk::Net;
 use std::alloc::Global;
 use std::marker::{Model, PhantomData};
+use table_twins::Base;
 
 /// Two networks with the sets that all workers read, none of which grows, and their ingresses as slots. The sets are functions of
 /// the base, and what each slot is given is that of its ingress.

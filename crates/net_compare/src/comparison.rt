@@ -19,13 +19,13 @@ ghost use Rattle.net_compare.specs.Networks.{world};
 
 use crate::compared::Compared;
 use crate::source::Ingresses;
-use crate::twin::{Base, Twins};
 use change_scope::scope_of;
 use cube_diagram::Diagrams;
 use device_fates::Fates;
 use difference_reach::Reach;
 use indexmap::IndexSet;
-use net_forms::{NetworkForm, Prepared, PreparedParts, Tables};
+use list_tables::prepared_by_workers;
+use net_forms::{NetworkForm, PreparedParts, Tables};
 use net_types::{Links, List, Network, NoMemory, Place, Section};
 use net_view::WorldRef;
 use pair_rows::{Pairing, SlotRows, rows_by_workers};
@@ -36,6 +36,7 @@ use std::marker::Brand;
 use std::sync::Wait;
 use std::thread::Threads;
 use steal_pool::Gate;
+use table_twins::{Base, Twins};
 
 /// The scope of a change, with the ways of all places of both networks for its headers.
 #[derive(Drop)]
@@ -103,7 +104,7 @@ pub fn compare_worlds<G: Gate + Sync, R: Threads + Wait + Sync>(
     if ingress.len() > u32::MAX as usize {
         return Err(NoMemory);
     }
-    let prepared = Prepared::of(alloc, before, after)?;
+    let prepared = prepared_by_workers(rt, alloc, before, after, workers)?;
     let sections = sections_prepared(
         rt,
         alloc,

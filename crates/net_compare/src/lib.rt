@@ -12,7 +12,6 @@ mod ingress;
 pub mod laws;
 mod pairs;
 mod source;
-mod twin;
 
 pub use comparison::{ScopedWays, compare, compare_worlds, scoped_ways};
 pub use laws::Affected;

@@ -3,13 +3,13 @@
 ghost use Rattle.std.specs.Prelude.{◌≡◌, IfSome};
 
 use crate::compared::Compared;
-use crate::twin::{Base, Twins};
 use cube_diagram::Diagrams;
 use net_types::NoMemory;
 use pair_rows::{PairFunction, PairSource, Pairing};
 use std::alloc::Global;
 use std::marker::Model;
 use std::sync::Wait;
+use table_twins::{Base, Twins};
 
 /// What makes the function of an ingress's pairs: what is compared, and the tables in which workers walk.
 #[derive(Drop)]

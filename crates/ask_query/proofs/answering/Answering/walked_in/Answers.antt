@@ -5,7 +5,7 @@ use Rattle.ask_query.proofs.SharedLemmas.{asked_kept, numbers_as}
 use Rattle.ask_query.proofs.answering.Answering.walked_in.Goals as goal
 
 pub answers_within-requires-clause-asked : goal.answers_within-requires-clause-asked
-answers_within-requires-clause-asked g c = asked_kept g.K.Asking.base c.args.table.now c.self.inside.asked.now c.requires c.self.invariant.0
+answers_within-requires-clause-asked g c = asked_kept g.K.Base.base c.args.table.now c.self.inside.asked.now c.requires c.self.invariant.0
 
 pub answers_within-requires-clause-numbers : goal.answers_within-requires-clause-numbers
 answers_within-requires-clause-numbers g c =
