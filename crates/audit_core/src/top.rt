@@ -39,7 +39,7 @@ pub fn audit_run<F: Files, O: Sink, E: Sink>(
         → WrotePart (map string_bytes words.now) t (O.taken out.old) (O.taken out.new)) }
     ensures nothing { result ≢ 0 → result ≢ 1 → result ≢ 6 → O.taken out.new ≡ O.taken out.old }
 
-    // Statuses 3, 4, 5 and 8 come by the first cause of the audit, with its line; at 4 its path is that of the call that failed.
+    // Statuses 3, 4, 5 and 8 come by the first cause of the audit, with its line; at 4 its path is one that the audit reads.
     ensures stopped { IfSome (F.told files.old) (λ t. (result ≡ 3) ⊎ ((result ≡ 4) ⊎ ((result ≡ 5) ⊎ (result ≡ 8)))
         → StoppedWith (map string_bytes words.now) t result (E.taken err.old) (E.taken err.new) (E.faults err.old) (E.faults err.new)) }
 
