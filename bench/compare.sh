@@ -61,6 +61,7 @@ measure leaves 16 250
 measure layers 16 8 4 20
 measure ring 100
 measure device 10000 1000 100
+measure hops 300000 1250
 measure folders 1000
 for n in 1000 3000; do
     measure list $n 0

@@ -8,6 +8,7 @@
                                           core loses one
     networks.py ring FOLDER N             N routers in a ring, each with a default route to the next; one of them loses its subnet
     networks.py device FOLDER R E RULES   a device with R routes, a list of E entries and RULES translation rules; a route is changed
+    networks.py hops FOLDER R H           a device with R routes by H next hops in turn, one of which gets another one
     networks.py folders FOLDER N          N devices of ten interfaces that have nothing to do with one another; nothing is changed
     networks.py list FOLDER N PERCENT     a device with a list of N generated entries, one of which is changed; of a hundred
                                           entries PERCENT have any source, and as many any destination
@@ -252,6 +253,19 @@ def device(folder, routes, entries, rules):
     write_links(folder, ["ingress R1 Ethernet0", "ingress R1 Ethernet1"])
 
 
+def hops(folder, routes, count):
+    """Routes of 28 bits, side by side, by next hops in connected subnets of 16 bits. In the new network the route in the middle is by
+    the last one, out of another interface where there are more than 1,000."""
+    lines = []
+    for k in range(1 + (count - 1) // 1000):
+        lines += ["interface Ethernet%d" % k, " ip address 10.%d.0.1 255.255.0.0" % k]
+    by = lambda i, j: "ip route %s 255.255.255.240 10.%d.%d.%d" % (dotted((20 << 24) + 16 * i), j // 1000, j % 1000 // 100, 2 + j % 100)
+    for version in ("old", "new"):
+        hop = lambda i: count - 1 if version == "new" and i == routes // 2 else i % count
+        write(folder, version, {"R1": lines + [by(i, hop(i)) for i in range(routes)]})
+    write_links(folder, ["ingress R1 Ethernet0", "ingress R1 Ethernet1"])
+
+
 def folders(folder, n):
     devices = {}
     for k in range(n):
@@ -371,7 +385,7 @@ def one_list(folder, n, percent):
 def main():
     kind, folder, *numbers = sys.argv[1:]
     shapes = {"list": one_list}
-    shapes.update((shape.__name__, shape) for shape in (chain, fabric, listed, lists, leaves, layers, ring, device, folders, crossed))
+    shapes.update((shape.__name__, shape) for shape in (chain, fabric, listed, lists, leaves, layers, ring, device, hops, folders, crossed))
     shapes[kind](folder, *(int(word) if word.isdigit() else word for word in numbers))
 
 
