@@ -1,18 +1,19 @@
 -- Paths are rows.
-use Rattle.std.proofs.Common.{ℕ, suc, ◌≡◌, ◌<◌, ◌≤◌, ◌-◌, ◌^◌, ◌⊎◌, inl, inr, List, [], ◌∷◌, ◌++◌, length, slice_get, Option, Some, None, IfSome, IsNone, IsSome, refl, ap, sym, ◌∙◌, subst, arith, All, AllPairs}
+use Rattle.std.proofs.Common.{ℕ, suc, ◌≡◌, ◌<◌, ◌≤◌, ◌-◌, ◌^◌, ◌⊎◌, inl, inr, List, [], ◌∷◌, ◌++◌, length, slice_get, Option, Some, None, IfSome, IsNone, IsSome, refl, ap, sym, ◌∙◌, subst, arith, All, AllPairs, Any, Bool, false, not, ◌&&◌, ◌==◌}
 use Rattle.std.specs.Int.{bit_at}
 use Rattle.std.proofs.lemmas.Bool.{cases_eq, cases_lt}
+use Rattle.std.proofs.lemmas.Bool.Decides.{eqb_tells}
 use Rattle.std.proofs.lemmas.Nat.Bits.{bit_at-lt, same_from_bits_below}
 use Rattle.std.proofs.lemmas.List.{append-nil, append_assoc, map-append}
 use Rattle.std.proofs.lemmas.List.Elements.{All-nil, All-cons, All-head, All-tail, All-append, All-weaker, Contains-append_left, Contains-append_right}
 use Rattle.std.proofs.lemmas.List.Kept.{AllPairs-cons}
 use Rattle.hdr_bits.specs.declared.cube.Cube.{Cube}
 use Rattle.hdr_bits.specs.Bits.{bit_of, flipped}
-use Rattle.hdr_bits.specs.CubeBits.{digit_at, IsIn, IsStar, AgreesBefore}
+use Rattle.hdr_bits.specs.CubeBits.{digit_at, IsIn, IsStar, AgreesAt, AgreesBefore}
 use Rattle.hdr_bits.specs.Rows.{IsRow, AreRows, ComesBefore}
 use Rattle.hdr_bits.proofs.CubeLemmas.{same_cube}
 use Rattle.hdr_bits.proofs.Masks.{in_from_mask}
-use Rattle.cube_alg.specs.Pairs.{HasDigit}
+use Rattle.cube_alg.specs.Pairs.{HasDigit, IsInside}
 use Rattle.cube_alg.specs.declared.cut.Piece.{Piece}
 use Rattle.cube_alg.proofs.SplitLemmas.{star_free, free_star, free_zero, digit_there}
 use Rattle.cube_alg.proofs.StampLemmas.{bits_below}
@@ -20,7 +21,7 @@ use Rattle.cube_diagram.specs.declared.table.Node.{Node}
 use Rattle.cube_diagram.specs.declared.table.Node.TheVariants.{Nothing, Value, Split}
 use Rattle.cube_diagram.specs.Nodes.{IsReduced, meaning, tested_at}
 use Rattle.cube_diagram.specs.Parts.{Ignores}
-use Rattle.cube_diagram.specs.Paths.{HasValue, cubes_of, AlikeBefore, IsPath, AreRowsUnder, AddsRows}
+use Rattle.cube_diagram.specs.Paths.{HasValue, cubes_of, AlikeBefore, IsPath, AreRowsUnder, AddsRows, AreRowsWithin}
 use Rattle.cube_diagram.proofs.NodeLemmas.{meaning_model, tested_read}
 use Rattle.cube_diagram.proofs.DescentLemmas.{ignored_before, divided_here, read_zero, read_one}
 use Rattle.cube_diagram.proofs.BitLemmas.{flipped_below, flipped_before}
@@ -264,12 +265,64 @@ under_both nodes r value path zeros ones from id k low high xs ys p e d g a b =
           one_there = v k (omega arith) ∙ g.there;
         }
 
+-- ---- headers under a path
+agrees_at_star : (c : Cube) (h i : ℕ) → IsStar c i → AgreesAt c h i
+agrees_at_star c h i s = if_none (digit_at c i) s
+  where
+    if_none : (o : Option ℕ) → IsNone o → IfSome o (λ b. bit_of h i ≡ b)
+    if_none None n = tt
+    if_none (Some x) n = absurd cc
+
+-- a header with the path's digits is in its cube
+in_path : (nodes : List Node) (value : ℕ → Option ℕ) (path : Cube) (from id h : ℕ) → IsPath nodes value path from id → AgreesBefore path from h → IsIn path h
+in_path nodes value path from id h p a k l =
+    elim (cases_lt k from) [
+      | inl x ↦ a k x
+      | inr x ↦ agrees_at_star path h k (p.free k x l)
+    ]
+
+bit_cases : (h k : ℕ) → (bit_of h k ≡ 0) ⊎ (bit_of h k ≡ 1)
+bit_cases h k =
+    elim (cases_eq (bit_of h k) 0) [
+      | inl z ↦ inl z
+      | inr n ↦ inr (let l = bit_at-lt h (111 - k) in omega (arith, l, n))
+    ]
+
+-- with its bit k it has the digits of that half
+agrees_half : (nodes : List Node) (value : ℕ → Option ℕ) (path half : Cube) (from id k b h : ℕ) → IsPath nodes value path from id → HasDigit k b path half → k < 112 → AgreesBefore path from h → bit_of h k ≡ b → AgreesBefore half (suc k) h
+agrees_half nodes value path half from id k b h p d w a e i l =
+    elim (cases_eq i k) [
+      | inl q ↦ subst (λ o. IfSome o (λ x. bit_of h i ≡ x)) (sym (ap (digit_at half) q ∙ d.there)) (ap (bit_of h) q ∙ e)
+      | inr n ↦ subst (λ o. IfSome o (λ x. bit_of h i ≡ x)) (sym (d.others i (omega (arith, l, w)) n)) (in_path nodes value path from id h p a i (omega (arith, l, w)))
+    ]
+
+-- ---- one of two lists holds a header
+any_left : (h : ℕ) (xs ys : List Piece) → Any (λ q. IsIn q.cube h) xs → Any (λ q. IsIn q.cube h) (xs ++ ys)
+any_left h xs ys a =
+    let c = Contains-append_left xs ys a.1 (a.0, a.2, a.3) in
+    (c.0, a.1, c.1, c.2, a.4)
+
+any_right : (h : ℕ) (xs ys : List Piece) → Any (λ q. IsIn q.cube h) ys → Any (λ q. IsIn q.cube h) (xs ++ ys)
+any_right h xs ys a =
+    let c = Contains-append_right xs ys a.1 (a.0, a.2, a.3) in
+    (c.0, a.1, c.1, c.2, a.4)
+
+-- what has the path's digits lies in its cube
+inside_path : (nodes : List Node) (value : ℕ → Option ℕ) (path : Cube) (from id : ℕ) (c : Cube) → IsPath nodes value path from id → from ≤ 112 → AlikeBefore path from c → IsInside c path
+inside_path nodes value path from id c p l a h i = in_path nodes value path from id h p (agrees_alike path c from h a (in_agrees c from h l i))
+
 -- ---- with their values
 pub adds_nothing : (nodes : List Node) → IsReduced nodes → (value : ℕ → Option ℕ) (path : Cube) (from id : ℕ) (old : List Piece) → IsPath nodes value path from id → slice_get nodes id ≡ Some Nothing → AddsRows value path from old old
 adds_nothing nodes r value path from id old p e =
     let t = tested_read nodes id Nothing e in
     let f = p.order in
-    record { pieces = []; added = sym (append-nil old); values = All-nil _; rows = under_nothing nodes r value path from id p e (omega (arith, f, t)) }
+    record {
+      pieces = [];
+      added = sym (append-nil old);
+      values = All-nil _;
+      rows = under_nothing nodes r value path from id p e (omega (arith, f, t));
+      covers = λ h b a s. absurd (not_some (value h) (p.leads h b a ∙ (meaning_model nodes r).equation id Nothing e h) s);
+    }
 
 pub adds_value : (nodes : List Node) → IsReduced nodes → (value : ℕ → Option ℕ) (path : Cube) (from id v : ℕ) (old : List Piece) (piece : Piece) → piece.cube ≡ path → piece.value ≡ v → IsPath nodes value path from id → slice_get nodes id ≡ Some (Value v) → AddsRows value path from old (old ++ piece ∷ [])
 adds_value nodes r value path from id v old piece c q p e =
@@ -281,6 +334,7 @@ adds_value nodes r value path from id v old piece c q p e =
       added = refl;
       values = All-cons (HasValue value) piece [] (λ h b i. value_there nodes r value path from id v p e l h b (subst (λ z. IsIn z h) c i) ∙ ap Some (sym q)) (All-nil _);
       rows = subst (λ z. AreRowsUnder value path from (z ∷ [])) (sym c) (under_value nodes r value path from id v p e l);
+      covers = λ h b a s. (0, piece, omega arith, refl, subst (λ z. IsIn z h) (sym c) (in_path nodes value path from id h p a));
     }
 
 pub adds_both : (nodes : List Node) → IsReduced nodes → (value : ℕ → Option ℕ) (path zeros ones : Cube) (from id k low high : ℕ) (old middle new : List Piece) → IsPath nodes value path from id → slice_get nodes id ≡ Some (Split k low high) → HasDigit k 0 path zeros → HasDigit k 1 path ones → AddsRows value zeros (suc k) old middle → AddsRows value ones (suc k) middle new → AddsRows value path from old new
@@ -290,6 +344,13 @@ adds_both nodes r value path zeros ones from id k low high old middle new p e d 
       added = b.added ∙ (ap (λ xs. xs ++ b.pieces) a.added ∙ append_assoc old a.pieces b.pieces);
       values = All-append (HasValue value) a.pieces b.pieces a.values b.values;
       rows = subst (AreRowsUnder value path from) (sym (map-append (λ q. q.cube) a.pieces b.pieces)) (under_both nodes r value path zeros ones from id k low high (cubes_of a.pieces) (cubes_of b.pieces) p e d g a.rows b.rows);
+      covers = λ h y f s.
+          let o = r.ordered id (Split k low high) e in
+          let w = o.0 in
+          elim (bit_cases h k) [
+            | inl z ↦ any_left h a.pieces b.pieces (a.covers h y (agrees_half nodes value path zeros from id k 0 h p d w f z) s)
+            | inr z ↦ any_right h a.pieces b.pieces (b.covers h y (agrees_half nodes value path ones from id k 1 h p g w f z) s)
+          ];
     }
 
 -- ---- from the root
@@ -303,3 +364,25 @@ rows_of_root value all new a =
       subst (λ z. AreRows value (cubes_of z)) (sym e) (record { each = a.rows.each; every = λ c row. a.rows.every c row (λ i m. absurd (omega (arith, m))); ordered = a.rows.ordered }),
       subst (All (HasValue value)) (sym e) a.values,
     )
+
+-- ---- from the end of a path
+pub rows_of_path : (nodes : List Node) (value : ℕ → Option ℕ) (path : Cube) (from id : ℕ) (new : List Piece) → IsPath nodes value path from id → from ≤ 112 → AddsRows value path from [] new → AreRowsWithin value path new
+rows_of_path nodes value path from id new p l a =
+    subst (AreRowsWithin value path) (sym a.added) (record {
+      each = a.rows.each;
+      inside = All-weaker (AlikeBefore path from) (λ c. IsInside c path) (λ c u. inside_path nodes value path from id c p l u) (cubes_of a.pieces) a.rows.under;
+      covers = λ h b i s. a.covers h b (in_agrees path from h l i) s;
+      ordered = a.rows.ordered;
+      values = a.values;
+    })
+
+-- cubes that a test finds equal are one
+pub one_cube : (c d : Cube) (differ : Bool) → differ ≡ not (c.fixed == d.fixed && c.bits == d.bits) → differ ≡ false → c ≡ d
+one_cube c d differ e f =
+    elim (eqb_tells c.fixed d.fixed) [
+      | inl x ↦ elim (eqb_tells c.bits d.bits) [
+        | inl y ↦ same_cube c d x.1 y.1
+        | inr y ↦ let p = x.0 in let q = y.0 in absurd cc
+      ]
+      | inr x ↦ let p = x.0 in absurd cc
+    ]

@@ -1,6 +1,6 @@
 //! The table of diagrams that its users see.
 
-ghost use Rattle.std.specs.Prelude.{◌≡◌, ◌<◌, ◌≤◌, ◌^◌, ◌↔◌, ℕ, None, All, IfOk, IsTrue, length};
+ghost use Rattle.std.specs.Prelude.{◌≡◌, ◌<◌, ◌≤◌, ◌^◌, ◌↔◌, ℕ, None, All, IfOk, IfSome, IsTrue, length};
 ghost use Rattle.hdr_bits.specs.HeaderBits.{number};
 ghost use Rattle.cube_alg.specs.Pieces.{value_of};
 ghost use Rattle.cube_alg.specs.OnCubes.{OfOnCube};
@@ -8,18 +8,18 @@ ghost use Rattle.cube_diagram.specs.Combined.{difference};
 ghost use Rattle.cube_diagram.specs.Entries.{cubes_value, first_value};
 ghost use Rattle.hdr_bits.specs.Rows.{AreRows};
 ghost use Rattle.cube_diagram.specs.Parts.{OfPart};
-ghost use Rattle.cube_diagram.specs.Paths.{HasValue, cubes_of};
+ghost use Rattle.cube_diagram.specs.Paths.{HasValue, AreRowsWithin, cubes_of};
 ghost use Rattle.cube_diagram.specs.Exact.{DividesForCause};
 ghost use Rattle.cube_diagram.specs.Functions.{Keeps, count_of, value_at};
 ghost use Rattle.cube_diagram.specs.Reach.{GivesOnly, OfComparison};
 
-use crate::combine::{Tables, combine, make_room, new_tables, twin_of};
+use crate::combine::{Tables, combine, new_tables, twin_of};
 use crate::compare::{Comparison, compare};
 use crate::descent::{divide, lookup};
 use crate::entry::{entry, first_match, first_of};
 use crate::exact::divide_exactly;
 use crate::memo::Operation;
-use crate::paths::add_rows;
+use crate::paths::{add_rows, path_within};
 use crate::table::NOTHING;
 use crate::trie::prefix_match;
 use crate::values::collect;
@@ -134,7 +134,6 @@ impl Diagrams {
         ensures exact { IfOk result (λ r. (h : ℕ) → value_at self.new r h ≡ difference (value_at self.old a h) (value_at self.old b h)) }
         ensures kept { Keeps self.old self.new }
     {
-        make_room(&mut self.tables)?;
         let id = combine(&mut self.tables, Operation::Difference, a, b)?;
         Ok(id)
     }
@@ -211,8 +210,47 @@ impl Diagrams {
         ensures values { IfOk result (λ rows. All (HasValue (value_at self.now function)) rows.items) }
     {
         let mut rows = Vec::new(alloc);
-        add_rows(&self.tables.table, function, &Cube::all(), &mut rows)?;
+        let has_all = add_rows(
+            &self.tables.table,
+            function,
+            &Cube::all(),
+            usize::MAX,
+            &mut rows,
+        )?;
+        if !has_all {
+            return Err(NoMemory);
+        }
         Ok(rows)
+    }
+
+    /// The canonical rows of the function that have a header in the cube, in order with their values, if these are at most
+    /// so many.
+    ///
+    /// They are found where the cube has a digit at exactly the bits that a walk down the diagram tests on its way, as the
+    /// halves have that come of dividing all headers by [`divide`](Diagrams::divide) again and again: each row lies in
+    /// such a cube whole or not at all. There is no answer for other cubes.
+    pub fn rows_within(
+        &self,
+        alloc: Global,
+        function: u32,
+        cube: &Cube,
+        most: usize,
+    ) -> Result<Option<Vec<Piece>>, NoMemory>
+        requires { function < count_of self.now }
+        ensures rows { IfOk result (λ found. IfSome found (λ rows. AreRowsWithin (value_at self.now function) cube.now rows.items)) }
+        ensures few { IfOk result (λ found. IfSome found (λ rows. length rows.items ≤ most)) }
+    {
+        let table = &self.tables.table;
+        let end = path_within(table, function, &Cube::all(), cube);
+        if end.path != *cube {
+            return Ok(None);
+        }
+        let mut rows = Vec::new(alloc);
+        let has_all = add_rows(table, end.id, cube, most, &mut rows)?;
+        if !has_all {
+            return Ok(None);
+        }
+        Ok(Some(rows))
     }
 
     /// Whether the two are equal: exactly where they have one number.

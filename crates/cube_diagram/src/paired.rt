@@ -60,11 +60,12 @@ pub(crate) fn paired(
     let low = paired(tables, a_low, b_low, pairs, memo)?;
     let high = paired(tables, a_high, b_high, pairs, memo)?;
     let result = split(tables, bit, low, high)?;
-    memo.remember(Combination {
+    let known = Combination {
         first: a,
         second: b,
         result,
-    });
+    };
+    memo.remember(tables.alloc, tables.table.nodes.len(), known);
     Ok(result)
 }
 

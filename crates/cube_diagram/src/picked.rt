@@ -33,11 +33,14 @@ pub(crate) fn picked(tables: &mut Tables, value: u32, id: u32) -> Result<u32, No
             let a = picked(tables, value, low)?;
             let b = picked(tables, value, high)?;
             let result = split(tables, bit, a, b)?;
-            tables.picked.remember(Combination {
+            let known = Combination {
                 first: id,
                 second: value,
                 result,
-            });
+            };
+            tables
+                .picked
+                .remember(tables.alloc, tables.table.nodes.len(), known);
             Ok(result)
         }
     }

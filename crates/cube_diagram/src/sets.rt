@@ -13,7 +13,7 @@ ghost use Rattle.cube_diagram.specs.Paired.{IsPairAt};
 ghost use Rattle.cube_diagram.specs.Images.{AreCopied, if_value, retold};
 ghost use Rattle.cube_diagram.specs.Functions.{Keeps, GivesNothing, IsByDestination, IsFirst, count_of, value_at};
 
-use crate::combine::{combine, make_room};
+use crate::combine::combine;
 use crate::copied::copied;
 use crate::destinations::by_destination;
 use crate::diagrams::Diagrams;
@@ -58,7 +58,6 @@ impl Diagrams {
         ensures exact { IfOk result (λ r. (h : ℕ) → value_at self.new r h ≡ if_both (value_at self.old a h) (value_at self.old b h)) }
         ensures kept { Keeps self.old self.new }
     {
-        make_room(&mut self.tables)?;
         let id = combine(&mut self.tables, Operation::Within, a, b)?;
         Ok(id)
     }
@@ -72,7 +71,6 @@ impl Diagrams {
         ensures exact { IfOk result (λ r. (h : ℕ) → value_at self.new r h ≡ if_alone (value_at self.old a h) (value_at self.old b h)) }
         ensures kept { Keeps self.old self.new }
     {
-        make_room(&mut self.tables)?;
         let id = combine(&mut self.tables, Operation::Without, a, b)?;
         Ok(id)
     }
@@ -84,7 +82,6 @@ impl Diagrams {
         ensures exact { IfOk result (λ r. (h : ℕ) → value_at self.new r h ≡ if_value value (value_at self.old function h)) }
         ensures kept { Keeps self.old self.new }
     {
-        make_room(&mut self.tables)?;
         let id = picked(&mut self.tables, value, function)?;
         Ok(id)
     }
@@ -136,7 +133,6 @@ impl Diagrams {
         ensures kept { Keeps self.old self.new }
     {
         let mut memo = new_memo(alloc)?;
-        memo.widen(alloc, self.tables.table.nodes.len())?;
         let id = paired(&mut self.tables, a, b, pairs, &mut memo)?;
         Ok(id)
     }

@@ -1,4 +1,5 @@
 use Rattle.std.proofs.Common.{arith, ap, subst, ◌∙◌, Some, refl, suc}
+use Rattle.std.specs.Bool.{IsTrue}
 use Rattle.cube_alg.specs.Pairs.{HasDigit}
 use Rattle.cube_diagram.specs.declared.table.Node.TheVariants.{Split}
 use Rattle.cube_diagram.specs.Nodes.{NodeBelow, tested_at}
@@ -52,18 +53,19 @@ add_rows-requires-in-Split t c =
     let u = o.2 in
     (omega (arith, b1, c.decreases), (c.requires.reduced, (omega (arith, b1, l), free_half c.args.path.now c.split.result.1 c.from.result 1 (tested_at nodes x.high) c.split.ensures.high_bits (omega (arith, e, u)) (λ j m n. c.requires.free j (omega (arith, m, q, e)) n))))
 
-pub returns-in-Nothing : goal.returns-in-Nothing
-returns-in-Nothing t c value from p =
+pub returns-in-Nothing-clause-rows : goal.returns-in-Nothing-clause-rows
+returns-in-Nothing-clause-rows t c _ value from p =
     adds_nothing c.args.table.now.nodes.items c.requires.reduced value c.args.path.now from c.args.id c.args.rows.now.items p (c.node_at.ensures ∙ ap Some c.in-Nothing.is)
 
-pub returns-in_ok-push-in-Value : goal.returns-in_ok-push-in-Value
-returns-in_ok-push-in-Value t c value from p =
+pub returns-in_ok-push-in-Value-clause-rows : goal.returns-in_ok-push-in-Value-clause-rows
+returns-in_ok-push-in-Value-clause-rows t c _ value from p =
     rw c.in_ok-push-in-Value.ensures.items (adds_value c.args.table.now.nodes.items c.requires.reduced value c.args.path.now from c.args.id c.in-Value.value c.args.rows.now.items _ refl refl p (c.node_at.ensures ∙ ap Some c.in-Value.is))
 
-pub returns-in_ok-add_rows-in-Split-2 : goal.returns-in_ok-add_rows-in-Split-2
-returns-in_ok-add_rows-in-Split-2 t c value from p =
+pub returns-in_ok-has_ones-in-Split-clause-rows : goal.returns-in_ok-has_ones-in-Split-clause-rows
+returns-in_ok-has_ones-in-Split-clause-rows t c all value from p =
     let nodes = c.args.table.now.nodes.items in
     let r = c.requires.reduced in
+    let zeros_all : IsTrue c.in_ok-has_zeros-in-Split.has_zeros = (let z = c.if-not-has_zeros.false in cc) in
     let path = c.args.path.now in
     let zeros = c.split.result.0 in
     let ones = c.split.result.1 in
@@ -71,6 +73,6 @@ returns-in_ok-add_rows-in-Split-2 t c value from p =
     let there = c.node_at.ensures ∙ ap Some x.is in
     let d = subst (λ k. HasDigit k 0 path zeros) c.from.ensures c.split.ensures.low_bits in
     let g = subst (λ k. HasDigit k 1 path ones) c.from.ensures c.split.ensures.high_bits in
-    let a = c.in_ok-add_rows-in-Split.ensures value (suc x.bit) (path_zeros nodes r value path zeros from c.args.id x.bit x.low x.high p there d) in
-    let b = c.in_ok-add_rows-in-Split-2.ensures value (suc x.bit) (path_ones nodes r value path ones from c.args.id x.bit x.low x.high p there g) in
+    let a = c.in_ok-has_zeros-in-Split.ensures.rows zeros_all value (suc x.bit) (path_zeros nodes r value path zeros from c.args.id x.bit x.low x.high p there d) in
+    let b = c.in_ok-has_ones-in-Split.ensures.rows all value (suc x.bit) (path_ones nodes r value path ones from c.args.id x.bit x.low x.high p there g) in
     adds_both nodes r value path zeros ones from c.args.id x.bit x.low x.high c.args.rows.now.items c.add_rows.new.rows.items c.add_rows-in-Split.new.rows.items p there d g a b

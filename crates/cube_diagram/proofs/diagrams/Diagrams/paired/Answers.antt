@@ -1,18 +1,13 @@
-use Rattle.std.proofs.Common.{subst, refl}
+use Rattle.std.proofs.Common.{subst}
 use Rattle.cube_diagram.proofs.NodeLemmas.{meaning_model, meaning_grows, keeps}
 use Rattle.cube_diagram.specs.Nodes.{meaning}
-use Rattle.cube_diagram.specs.Combined.{of_nothing}
 use Rattle.cube_diagram.specs.Paired.{IsPairAt}
-use Rattle.cube_diagram.proofs.PairedLemmas.{memo_start, memo_put, paired_nothing}
+use Rattle.cube_diagram.proofs.PairedLemmas.{memo_start}
 use Rattle.cube_diagram.proofs.diagrams.Diagrams.paired.Goals as goal
 
 pub paired-requires-clause-memo : goal.paired-requires-clause-memo
 paired-requires-clause-memo c =
-    let nodes = c.self.inside.tables.table.nodes.items in
-    let pairs = c.args.pairs.now.keys in
-    let r = c.self.invariant.reduced in
-    let old = c.in_ok-memo.memo.slots.items in
-    memo_put nodes pairs of_nothing old c.widen.new.self.slots.items (paired_nothing nodes pairs 0 0 r refl refl) (memo_start nodes pairs old r c.in_ok-memo.ensures) c.widen.ensures
+    memo_start c.self.inside.tables.table.nodes.items c.args.pairs.now.keys c.in_ok-memo.memo.slots.items c.self.invariant.reduced c.in_ok-memo.ensures
 
 pub returns-in_err-id-clause-kept : goal.returns-in_err-id-clause-kept
 returns-in_err-id-clause-kept c =

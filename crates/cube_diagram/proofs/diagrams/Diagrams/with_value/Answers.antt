@@ -1,6 +1,5 @@
-use Rattle.std.proofs.Common.{subst, ap, ◌∙◌}
+use Rattle.std.proofs.Common.{ap, ◌∙◌}
 use Rattle.cube_diagram.proofs.NodeLemmas.{meaning_model, meaning_grows, keeps}
-use Rattle.hdr_bits.specs.Lists.{Extends}
 use Rattle.cube_diagram.specs.Nodes.{meaning}
 use Rattle.cube_diagram.specs.Images.{if_value}
 use Rattle.cube_diagram.proofs.diagrams.Diagrams.with_value.Goals as goal
@@ -8,12 +7,12 @@ use Rattle.cube_diagram.proofs.diagrams.Diagrams.with_value.Goals as goal
 pub returns-in_err-id-clause-kept : goal.returns-in_err-id-clause-kept
 returns-in_err-id-clause-kept c =
     let e = c.in_err-id.ensures in
-    rw (← c.self.view_is) (keeps c.self.inside.tables.table.nodes.items c.picked.new.tables.table.nodes.items c.self.invariant.reduced e.sound.reduced (subst (λ n. Extends n c.picked.new.tables.table.nodes.items) c.in_ok-make_room.ensures.nodes e.grows))
+    rw (← c.self.view_is) (keeps c.self.inside.tables.table.nodes.items c.picked.new.tables.table.nodes.items c.self.invariant.reduced e.sound.reduced e.grows)
 
 pub returns-clause-kept : goal.returns-clause-kept
 returns-clause-kept c =
     let e = c.in_ok-id.ensures in
-    rw (← c.self.view_is) (keeps c.self.inside.tables.table.nodes.items c.picked.new.tables.table.nodes.items c.self.invariant.reduced e.sound.reduced (subst (λ n. Extends n c.picked.new.tables.table.nodes.items) c.in_ok-make_room.ensures.nodes e.grows))
+    rw (← c.self.view_is) (keeps c.self.inside.tables.table.nodes.items c.picked.new.tables.table.nodes.items c.self.invariant.reduced e.sound.reduced e.grows)
 
 pub returns-clause-exact : goal.returns-clause-exact
 returns-clause-exact c h =
@@ -21,6 +20,5 @@ returns-clause-exact c h =
     let old = c.self.inside.tables.table.nodes.items in
     let new = c.picked.new.tables.table.nodes.items in
     let r = e.sound.reduced in
-    let g = subst (λ n. Extends n new) c.in_ok-make_room.ensures.nodes e.grows in
-    let a = meaning_grows old new c.self.invariant.reduced r g c.args.function (rw c.self.view_is c.requires) h in
+    let a = meaning_grows old new c.self.invariant.reduced r e.grows c.args.function (rw c.self.view_is c.requires) h in
     rw (← c.self.view_is) (e.picked.value (meaning new) (meaning_model new r) h ∙ ap (if_value c.args.value) a)
