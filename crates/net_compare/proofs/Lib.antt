@@ -1,3 +1,4 @@
 pub mod RowLemmas
+pub mod WalkableLemmas
 pub mod IngressLemmas
 pub mod SectionLemmas

@@ -1,5 +1,5 @@
 -- From numbers of pairs of labels to rows.
-use Rattle.std.proofs.Common.{◌≡◌, ℕ, zero, suc, List, [], ◌∷◌, ◌++◌, Option, Some, None, slice_get, length, inl, inr, refl, sym, ap, subst, ◌∙◌}
+use Rattle.std.proofs.Common.{◌≡◌, ℕ, zero, suc, List, [], ◌∷◌, ◌++◌, Option, Some, None, IsSome, slice_get, length, inl, inr, ◌⊎◌, true≢false, refl, sym, ap, subst, ◌∙◌}
 use Rattle.std.specs.Prelude.{slice_index_or}
 use Rattle.std.specs.Option.{option_map_or}
 use Rattle.hdr_bits.specs.Lists.{Extends}
@@ -10,12 +10,34 @@ use Rattle.net_types.specs.declared.label.Outcome.{Outcome}
 use Rattle.set_walk.specs.declared.numbers.OutcomeList.{OutcomeList}
 use Rattle.set_walk.specs.Numbers.{outcomes_at}
 use Rattle.pair_rows.specs.Pairs.{IsNumberOf}
-use Rattle.pair_rows.proofs.RowLemmas.{get_before, still_number}
-use Rattle.pair_rows.proofs.LeafLemmas.{last_or_before}
 use Rattle.net_compare.specs.Rows.{HasOutcomes, IsToldFor, IsToldAt, AreTold, labels_by}
 
 abbrev Pairs : Type 0
 Pairs = List (List Outcome × List Outcome)
+
+-- ---- longer lists
+get_before : {A : Type 0} (xs ys : List A) (i : ℕ) (x : A) → slice_get xs i ≡ Some x → slice_get (xs ++ ys) i ≡ Some x
+get_before [] ys i x e = absurd cc
+get_before (y ∷ xs) ys zero x e = e
+get_before (y ∷ xs) ys (suc i) x e = get_before xs ys i x e
+
+some_value : {A : Type 0} (o : Option A) → IsSome o → (x : A) × (o ≡ Some x)
+some_value None s = absurd (true≢false (sym s))
+some_value (Some x) s = (x, refl)
+
+-- a number keeps its pair in a longer list
+still_number : (old new : Pairs) → Extends old new → (o : Option ℕ) (q : Option (List Outcome × List Outcome)) → IsNumberOf old o q → IsNumberOf new o q
+still_number old new g None q n = n
+still_number old new g (Some v) q n =
+    let s = some_value q n.1 in
+    let at : slice_get old v ≡ Some s.0 = sym n.0 ∙ s.1 in
+    (s.1 ∙ sym (rw g.added (get_before old g.more v s.0 at)), n.1)
+
+last_or_before : {A : Type 0} (xs : List A) (x y : A) (n : ℕ) → slice_get (xs ++ x ∷ []) n ≡ Some y → (slice_get xs n ≡ Some y) ⊎ ((n ≡ length xs) × (x ≡ y))
+last_or_before [] x y zero e = inr (refl, cc)
+last_or_before [] x y (suc n) e = absurd cc
+last_or_before (z ∷ xs) x y zero e = inl e
+last_or_before (z ∷ xs) x y (suc n) e = elim (last_or_before xs x y n e) [ inl q ↦ inl q | inr q ↦ inr (ap suc q.0, q.1) ]
 
 -- ---- where a label stands
 pub there : (labels : List OutcomeList) (n : ℕ) (l : OutcomeList) → slice_get labels n ≡ Some l → outcomes_at labels n ≡ l.outcomes.items

@@ -1,3 +1,4 @@
 pub mod Networks
 pub mod Slots
+pub mod Walkable
 pub mod Rows

@@ -3,11 +3,9 @@
 ghost use Rattle.std.specs.Prelude.{◌≡◌, ◌≤◌, ℕ, IfOk, Some, length, slice_get};
 ghost use Rattle.cube_diagram.specs.Functions.{Keeps};
 ghost use Rattle.pair_rows.specs.Functions.{IsFunctionOf};
-ghost use Rattle.difference_reach.specs.Reaches.{IsReach};
 ghost use Rattle.net_view.specs.Borrowed.{world_of};
-ghost use Rattle.set_walk.specs.Nets.{IsNet};
-ghost use Rattle.set_walk.specs.Scopes.{AreAlikeBeyond};
 ghost use Rattle.net_compare.specs.Slots.{affected_in};
+ghost use Rattle.net_compare.specs.Walkable.{AreWalkable};
 
 use crate::ingress::pairs_at;
 use crate::pairs::no_pairs;
@@ -35,22 +33,16 @@ pub(crate) struct Compared<'a, K: Pairing + Base> {
 impl<'a, K: Pairing + Base> Model for Compared<'a, K> {
     ghost use Rattle.std.specs.Prelude.{◌≡◌, ◌≤◌, List};
     ghost use Rattle.net_types.specs.declared.network.Place.{Place};
-    ghost use Rattle.difference_reach.specs.Reaches.{IsReach};
     ghost use Rattle.net_view.specs.Borrowed.{world_of};
-    ghost use Rattle.set_walk.specs.Nets.{IsNet};
-    ghost use Rattle.set_walk.specs.Scopes.{AreAlikeBeyond};
     ghost use Rattle.net_compare.specs.Slots.{affected_in};
+    ghost use Rattle.net_compare.specs.Walkable.{AreWalkable};
 
     // Contracts see the ingresses.
     ghost Value = { List Place };
 
     ghost view = { λ s. s.ingress.now };
 
-    ghost invariant = { λ s. IsNet K.base s.old.now
-        × IsNet K.base s.new.now
-        × (s.old.now.scope ≡ s.new.now.scope)
-        × IsReach (world_of s.old.now.world) (world_of s.new.now.world) K.base s.old.now.scope s.reach.now
-        × AreAlikeBeyond (world_of s.old.now.world) (world_of s.new.now.world) K.base s.old.now.scope
+    ghost invariant = { λ s. AreWalkable K.base s.old.now s.new.now s.reach.now
         × (1 ≤ s.ttl)
         × (K.gives ≡ affected_in (world_of s.old.now.world) (world_of s.new.now.world) s.ttl s.ingress.now) };
 }
@@ -63,11 +55,7 @@ impl<'a, K: Pairing + Base> Compared<'a, K> {
         ttl: u8,
         ingress: &'a [Place],
     ) -> Compared<'a, K>
-        requires old { IsNet K.base old.now }
-        requires new { IsNet K.base new.now }
-        requires scope { old.now.scope ≡ new.now.scope }
-        requires reach { IsReach (world_of old.now.world) (world_of new.now.world) K.base old.now.scope reach.now }
-        requires beyond { AreAlikeBeyond (world_of old.now.world) (world_of new.now.world) K.base old.now.scope }
+        requires nets { AreWalkable K.base old.now new.now reach.now }
         requires ttl { 1 ≤ ttl }
         requires gives { K.gives ≡ affected_in (world_of old.now.world) (world_of new.now.world) ttl ingress.now }
         ensures { result ≡ ingress.now }

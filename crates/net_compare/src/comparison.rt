@@ -9,13 +9,12 @@ ghost use Rattle.net_types.specs.World.{World};
 ghost use Rattle.pair_rows.specs.declared.leaves.SlotRows.{SlotRows};
 ghost use Rattle.net_compare.specs.Slots.{AreRowsOfSlots, affected_in};
 ghost use Rattle.net_view.specs.Borrowed.{world_of};
-ghost use Rattle.set_walk.specs.Nets.{IsNet};
 ghost use Rattle.set_walk.specs.Scopes.{AreAlikeBeyond};
-ghost use Rattle.difference_reach.specs.Reaches.{IsReach};
 ghost use Rattle.place_ways.specs.Places.{ArePlaceWays};
 ghost use Rattle.indexmap.specs.IndexMap.{get};
 ghost use Rattle.net_types.specs.World.{same_place};
 ghost use Rattle.net_compare.specs.Networks.{world};
+ghost use Rattle.net_compare.specs.Walkable.{AreWalkable};
 
 use crate::compared::Compared;
 use crate::source::Ingresses;
@@ -227,11 +226,7 @@ fn sections_at<G: Gate + Sync, R: Threads + Wait + Sync>(
     workers: u32,
     gate: &G,
 ) -> Result<Vec<Section>, NoMemory>
-    requires old { IsNet table old.now }
-    requires new { IsNet table new.now }
-    requires scope { old.now.scope ≡ new.now.scope }
-    requires reach { IsReach (world_of old.now.world) (world_of new.now.world) table old.now.scope reach.now }
-    requires beyond { AreAlikeBeyond (world_of old.now.world) (world_of new.now.world) table old.now.scope }
+    requires nets { AreWalkable table old.now new.now reach.now }
     requires ttl { 1 ≤ ttl }
     requires few { length ingress.now < 2 ^ 32 }
     requires workers { (1 ≤ workers) × (workers ≤ 64) }
@@ -254,11 +249,7 @@ fn sections_named<K: Pairing + Base + Send + Sync, G: Gate + Sync, R: Threads + 
     workers: u32,
     gate: &G,
 ) -> Result<Vec<Section>, NoMemory>
-    requires old { IsNet table old.now }
-    requires new { IsNet table new.now }
-    requires scope { old.now.scope ≡ new.now.scope }
-    requires reach { IsReach (world_of old.now.world) (world_of new.now.world) table old.now.scope reach.now }
-    requires beyond { AreAlikeBeyond (world_of old.now.world) (world_of new.now.world) table old.now.scope }
+    requires nets { AreWalkable table old.now new.now reach.now }
     requires ttl { 1 ≤ ttl }
     requires few { length ingress.now < 2 ^ 32 }
     requires workers { (1 ≤ workers) × (workers ≤ 64) }

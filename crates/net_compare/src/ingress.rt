@@ -2,14 +2,13 @@
 
 ghost use Rattle.std.specs.Prelude.{◌≡◌, ◌≤◌, ◌<◌, IfOk};
 ghost use Rattle.cube_diagram.specs.Functions.{Keeps, count_of};
-ghost use Rattle.difference_reach.specs.Reaches.{IsReach};
 ghost use Rattle.net_types.specs.Report.{affected};
 ghost use Rattle.net_view.specs.Borrowed.{world_of};
 ghost use Rattle.pair_rows.specs.Functions.{IsFunctionOf};
 ghost use Rattle.set_walk.specs.Nets.{IsNet};
-ghost use Rattle.set_walk.specs.Scopes.{AreAlikeBeyond};
 ghost use Rattle.set_walk.specs.Sets.{IsWithin};
 ghost use Rattle.net_compare.specs.Rows.{AreAlikeOutside};
+ghost use Rattle.net_compare.specs.Walkable.{AreWalkable};
 
 use crate::pairs::{no_pairs, pairs_given};
 use cube_diagram::Diagrams;
@@ -30,11 +29,7 @@ pub(crate) fn pairs_at(
     ttl: u8,
     place: Place,
 ) -> Result<PairFunction, NoMemory>
-    requires old { IsNet table.old old.now }
-    requires new { IsNet table.old new.now }
-    requires scope { old.now.scope ≡ new.now.scope }
-    requires reach { IsReach (world_of old.now.world) (world_of new.now.world) table.old old.now.scope reach.now }
-    requires beyond { AreAlikeBeyond (world_of old.now.world) (world_of new.now.world) table.old old.now.scope }
+    requires nets { AreWalkable table.old old.now new.now reach.now }
     requires ttl { 1 ≤ ttl }
     ensures given { IfOk result (IsFunctionOf (affected (world_of old.now.world) (world_of new.now.world) ttl place)) }
     ensures kept { Keeps table.old table.new }

@@ -5,7 +5,7 @@ ghost use Rattle.std.specs.Option.{option_copied};
 ghost use Rattle.hdr_bits.specs.Lists.{Extends};
 ghost use Rattle.cube_diagram.specs.Functions.{Keeps, count_of, value_at};
 ghost use Rattle.net_types.specs.Report.{labels_if_other};
-ghost use Rattle.pair_rows.specs.Pairs.{Pair, AreDistinct, IsNumberOf};
+ghost use Rattle.pair_rows.specs.Pairs.{Pair, IsNumberOf};
 ghost use Rattle.pair_rows.specs.Functions.{IsFunctionOf};
 ghost use Rattle.net_compare.specs.Rows.{HaveOutcomes, AreTold, IsToldFor, IsLabelAt, labels_at};
 
@@ -88,9 +88,7 @@ fn pairs_of(
     numbers: &[ValuePair],
     pairs: &mut LabelPairs,
 ) -> Result<Vec<Option<u32>>, NoMemory>
-    requires { AreDistinct pairs.old }
     ensures told { IfOk result (λ told. AreTold old.now new.now pairs.new numbers.now told.items) }
-    ensures distinct { OnOk result (AreDistinct pairs.new) }
 {
     let mut told = Vec::with_capacity(alloc, numbers.len())?;
     for two in numbers {
@@ -107,10 +105,8 @@ fn pair_of(
     numbers: ValuePair,
     pairs: &mut LabelPairs,
 ) -> Result<Option<u32>, NoMemory>
-    requires { AreDistinct pairs.old }
     ensures told { IfOk result (IsToldFor old.now new.now pairs.new numbers) }
     ensures extends { OnOk result (Extends pairs.old pairs.new) }
-    ensures distinct { OnOk result (AreDistinct pairs.new) }
 {
     let Some(before) = label_at(alloc, old, numbers.first)? else {
         return Ok(None);
@@ -129,10 +125,8 @@ fn number_of(
     new: &Label,
     pairs: &mut LabelPairs,
 ) -> Result<Option<u32>, NoMemory>
-    requires { AreDistinct pairs.old }
     ensures number { IfOk result (λ r. IsNumberOf pairs.new r (labels_if_other old.now new.now)) }
     ensures extends { OnOk result (Extends pairs.old pairs.new) }
-    ensures distinct { OnOk result (AreDistinct pairs.new) }
 {
     if old.same(new) {
         return Ok(None);

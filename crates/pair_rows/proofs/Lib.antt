@@ -1,4 +1,6 @@
 pub mod NumberLemmas
+pub mod ListLemmas
+pub mod OrderLemmas
 pub mod RowLemmas
-pub mod LeafLemmas
+pub mod SlotLemmas
 pub mod RootLemmas

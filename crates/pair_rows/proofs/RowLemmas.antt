@@ -1,45 +1,27 @@
 -- From numbers of pairs of labels to rows.
-use Rattle.std.proofs.Common.{◌≡◌, ◌↔◌, ℕ, zero, suc, ◌^◌, ◌<◌, List, [], ◌∷◌, ◌++◌, Option, Some, None, IsSome, All, map, slice_get, refl, sym, ap, subst, ◌∙◌, arith, true≢false}
+use Rattle.std.proofs.Common.{◌≡◌, ◌⊎◌, inl, inr, ◌↔◌, ℕ, ◌^◌, ◌<◌, List, [], ◌∷◌, ◌++◌, Option, Some, None, IsSome, All, AllPairs, Any, Contains, map, slice_get, refl, sym, ap, subst, ◌∙◌, arith, true≢false}
 use Rattle.std.specs.Prelude.{filter_map, is_some}
-use Rattle.std.specs.Option.{option_or}
 use Rattle.std.specs.List.{AllByRecursion}
 use Rattle.std.proofs.lemmas.Nat.{and_le_r}
-use Rattle.std.proofs.lemmas.List.Elements.{All-head, All-tail}
+use Rattle.std.proofs.lemmas.List.{map-append}
+use Rattle.std.proofs.lemmas.List.Elements.{All-head, All-tail, All-append, All-nil, All-weaker, All-contains}
 use Rattle.hdr_bits.specs.declared.cube.Cube.{Cube}
 use Rattle.hdr_bits.specs.CubeBits.{IsIn}
-use Rattle.hdr_bits.specs.Lists.{Extends}
-use Rattle.hdr_bits.specs.Rows.{AreRows}
+use Rattle.hdr_bits.specs.Rows.{IsRow, ComesBefore, AreRows}
 use Rattle.hdr_bits.proofs.Masks.{in_from_mask}
 use Rattle.canon_rows.specs.Laws.{TellSameApart}
-use Rattle.canon_rows.proofs.LikeFunctions.{rows_of_other}
-use Rattle.canon_rows.specs.declared.Piece.{Piece}
-use Rattle.canon_rows.specs.Pieces.{HasValue}
+use Rattle.canon_rows.proofs.LikeFunctions.{row_of_other, rows_of_other}
+use Rattle.canon_rows.proofs.RowLaws.{rows_are_disjoint}
+use Rattle.cube_alg.specs.declared.cut.Piece.{Piece}
+use Rattle.cube_diagram.specs.Paths.{HasValue, AreRowsWithin}
 use Rattle.net_types.specs.declared.network.Row.{Row}
-use Rattle.pair_rows.specs.Pairs.{Pair, AreDistinct, IsNumberOf, HasLabelPair, AreRowsWithPairs, shown, shown_by}
+use Rattle.pair_rows.specs.Pairs.{Pair, AreDistinct, IsNumberOf, HasLabelPair, AreRowsFor, AreRowsWithPairs, cubes_of, shown, shown_by}
+use Rattle.pair_rows.proofs.ListLemmas.{any_left, any_right, any_map, recursion_append}
 
--- ---- a table that grows
-pub get_before : {A : Type 0} (xs ys : List A) (i : ℕ) (x : A) → slice_get xs i ≡ Some x → slice_get (xs ++ ys) i ≡ Some x
-get_before [] ys i x e = absurd cc
-get_before (y ∷ xs) ys zero x e = e
-get_before (y ∷ xs) ys (suc i) x e = get_before xs ys i x e
-
-pub some_value : {A : Type 0} (o : Option A) → IsSome o → (x : A) × (o ≡ Some x)
+-- ---- functions that tell the same headers apart
+some_value : {A : Type 0} (o : Option A) → IsSome o → (x : A) × (o ≡ Some x)
 some_value None s = absurd (true≢false (sym s))
 some_value (Some x) s = (x, refl)
-
--- a number keeps its pair in a longer table
-pub still_number : (old new : List Pair) → Extends old new → (o : Option ℕ) (q : Option Pair) → IsNumberOf old o q → IsNumberOf new o q
-still_number old new g None q n = n
-still_number old new g (Some v) q n =
-    let s = some_value q n.1 in
-    let at : slice_get old v ≡ Some s.0 = sym n.0 ∙ s.1 in
-    (s.1 ∙ sym (rw g.added (get_before old g.more v s.0 at)), n.1)
-
--- the first number stands for the first pair
-pub first_number : (pairs : List Pair) (o p : Option ℕ) (q r : Option Pair) → IsNumberOf pairs o q → IsNumberOf pairs p r → IsNumberOf pairs (option_or o p) (option_or q r)
-first_number pairs None p q r n m = subst (λ (x : Option Pair). IsNumberOf pairs p (option_or x r)) (sym n) m
-first_number pairs (Some v) p None r n m = absurd (true≢false (sym n.1))
-first_number pairs (Some v) p (Some x) r n m = n
 
 some_of : (pairs : List Pair) (o : Option ℕ) (q : Option Pair) → IsNumberOf pairs o q → IsSome o ↔ IsSome q
 some_of pairs None q t = (λ s. absurd (true≢false (sym s)), λ s. absurd (true≢false (sym s ∙ ap is_some t)))
@@ -64,7 +46,7 @@ tells_same pairs d f g t =
       same = λ h k l i. same_of pairs d (f h) (f k) (g h) (g k) (t h l) (t k i);
     }
 
--- ---- the rows
+-- ---- rows of numbers
 own_bits : (c : Cube) → c.bits < 2 ^ 112
 own_bits c = let m = and_le_r c.bits c.fixed in omega (arith, m, c.digits, c.below)
 
@@ -93,6 +75,7 @@ row_facts pairs f g t (p ∷ ps) a (r ∷ rows) e =
     let has : HasLabelPair g r = λ h l m. n.2 h l (subst (λ c. IsIn c h) (ap (λ x. x.0) head) m) ∙ sym (ap (λ x. Some x.1) head) in
     (λ i. (head i).0 ∷ later.0 i, (has, later.1))
 
+-- all rows of the function
 pub rows_of_pairs : (pairs : List Pair) → AreDistinct pairs → (f : ℕ → Option ℕ) (pieces : List Piece) → AreRows f (map (λ p. p.cube) pieces) → All (HasValue f) pieces → (rows : List Row) → map shown rows ≡ filter_map (shown_by pairs) pieces → (g : ℕ → Option Pair) → ((h : ℕ) → h < 2 ^ 112 → IsNumberOf pairs (f h) (g h)) → AreRowsWithPairs g rows
 rows_of_pairs pairs d f pieces are values rows shows g t =
     let facts = row_facts pairs f g t pieces values rows shows in
@@ -101,21 +84,62 @@ rows_of_pairs pairs d f pieces are values rows shows g t =
       pairs = facts.1;
     }
 
--- ---- equal functions
-same_apart : (f g : ℕ → Option Pair) → ((h : ℕ) → h < 2 ^ 112 → f h ≡ g h) → TellSameApart f g
-same_apart f g e =
+-- the rows of the function in a cube
+pub rows_of_cube : (pairs : List Pair) → AreDistinct pairs → (f : ℕ → Option ℕ) (cube : Cube) (pieces : List Piece) → AreRowsWithin f cube pieces → (rows : List Row) → map shown rows ≡ filter_map (shown_by pairs) pieces → (g : ℕ → Option Pair) → ((h : ℕ) → h < 2 ^ 112 → IsNumberOf pairs (f h) (g h)) → AreRowsFor g (IsIn cube) rows
+rows_of_cube pairs d f cube pieces are rows shows g t =
+    let facts = row_facts pairs f g t pieces are.values rows shows in
+    let cubes : List Cube = map (λ p. p.cube) pieces in
     record {
-      some = λ h l. (λ s. subst (λ (o : Option Pair). IsSome o) (e h l) s, λ s. subst (λ (o : Option Pair). IsSome o) (sym (e h l)) s);
-      same = λ h k l i. (λ q. sym (e h l) ∙ q ∙ e k i, λ q. e h l ∙ q ∙ sym (e k i));
+      each = subst (All (IsRow g)) (sym facts.0) (All-weaker (IsRow f) (IsRow g) (row_of_other f g (tells_same pairs d f g t)) cubes are.each);
+      covers = λ h l i s. subst (Any (λ c. IsIn c h)) (sym facts.0) (any_map (λ (p : Piece). p.cube) (λ (c : Cube). IsIn c h) pieces (are.covers h l i ((some_of pairs (f h) (g h) (t h l)).1 s)));
+      ordered = subst (AllPairs ComesBefore) (sym facts.0) are.ordered;
+      pairs = facts.1;
     }
 
-pairs_of_same : (f g : ℕ → Option Pair) → ((h : ℕ) → h < 2 ^ 112 → f h ≡ g h) → (rows : List Row) → AllByRecursion (HasLabelPair f) rows → AllByRecursion (HasLabelPair g) rows
-pairs_of_same f g e [] a = tt
-pairs_of_same f g e (r ∷ rows) a = (λ h l i. sym (e h l) ∙ a.0 h l i, pairs_of_same f g e rows a.1)
-
-pub rows_of_same : (f g : ℕ → Option Pair) → ((h : ℕ) → h < 2 ^ 112 → f h ≡ g h) → (rows : List Row) → AreRowsWithPairs f rows → AreRowsWithPairs g rows
-rows_of_same f g e rows a =
+-- ---- rows together
+pub no_rows : (g : ℕ → Option Pair) (headers : ℕ → Type 0) → ((h : ℕ) → headers h → ⊥) → AreRowsFor g headers []
+no_rows g headers none =
     record {
-      cubes = rows_of_other f g (same_apart f g e) (map (λ r. r.cube) rows) a.cubes;
-      pairs = pairs_of_same f g e rows a.pairs;
+      each = All-nil (IsRow g);
+      covers = λ h l i s. absurd (none h i);
+      ordered = λ i j d l k. absurd (omega (arith, l, k));
+      pairs = tt;
+    }
+
+-- of the headers of two lists of rows
+pub rows_together : (g : ℕ → Option Pair) (some others both : ℕ → Type 0) (xs ys : List Row) → AreRowsFor g some xs → AreRowsFor g others ys → AllPairs ComesBefore (cubes_of (xs ++ ys)) → ((h : ℕ) → both h → some h ⊎ others h) → AreRowsFor g both (xs ++ ys)
+rows_together g some others both xs ys a b order either =
+    let all : cubes_of (xs ++ ys) ≡ cubes_of xs ++ cubes_of ys = map-append (λ (r : Row). r.cube) xs ys in
+    record {
+      each = subst (All (IsRow g)) (sym all) (All-append (IsRow g) (cubes_of xs) (cubes_of ys) a.each b.each);
+      covers = λ h l i s.
+          subst (Any (λ c. IsIn c h)) (sym all)
+          (elim (either h i) [
+            | inl p ↦ any_left (λ (c : Cube). IsIn c h) (cubes_of xs) (cubes_of ys) (a.covers h l p s)
+            | inr p ↦ any_right (λ (c : Cube). IsIn c h) (cubes_of xs) (cubes_of ys) (b.covers h l p s)
+          ]);
+      ordered = order;
+      pairs = recursion_append (HasLabelPair g) xs ys a.pairs b.pairs;
+    }
+
+-- of fewer headers
+pub rows_of_fewer : (g : ℕ → Option Pair) (headers fewer : ℕ → Type 0) (rows : List Row) → AreRowsFor g headers rows → ((h : ℕ) → fewer h → headers h) → AreRowsFor g fewer rows
+rows_of_fewer g headers fewer rows a less = record { each = a.each; covers = λ h l i s. a.covers h l (less h i) s; ordered = a.ordered; pairs = a.pairs }
+
+-- of all headers: each row has a header, which is in one of these
+pub rows_of_all : (g : ℕ → Option Pair) (headers : ℕ → Type 0) (rows : List Row) → AreRowsFor g headers rows → ((h : ℕ) → h < 2 ^ 112 → headers h) → AreRowsWithPairs g rows
+rows_of_all g headers rows a all =
+    record {
+      cubes = record {
+        each = a.each;
+        every = λ c r.
+            let own = own_bits c in
+            let member = in_from_mask c c.bits c.digits in
+            let found = a.covers c.bits own (all c.bits own) (r.something c.bits own member) in
+            let there : Contains (cubes_of rows) found.1 = (found.0, found.2, found.3) in
+            let same : found.1 ≡ c = rows_are_disjoint g found.1 c (All-contains (IsRow g) (cubes_of rows) found.1 a.each there) r c.bits own found.4 member in
+            subst (Contains (cubes_of rows)) same there;
+        ordered = a.ordered;
+      };
+      pairs = a.pairs;
     }

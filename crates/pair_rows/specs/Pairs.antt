@@ -1,10 +1,10 @@
 -- Pairs of labels, by numbers in a list and in rows.
-use Rattle.std.specs.Prelude.{ℕ, ◌≡◌, ◌<◌, ◌^◌, List, Option, Some, None, IsSome, slice_get, option_map, map}
+use Rattle.std.specs.Prelude.{ℕ, ◌≡◌, ◌<◌, ◌^◌, List, Option, Some, None, IsSome, All, AllPairs, Any, slice_get, option_map, map}
 use Rattle.std.specs.List.{AllByRecursion}
 use Rattle.hdr_bits.specs.declared.cube.Cube.{Cube}
 use Rattle.hdr_bits.specs.CubeBits.{IsIn}
-use Rattle.hdr_bits.specs.Rows.{AreRows}
-use Rattle.canon_rows.specs.declared.Piece.{Piece}
+use Rattle.hdr_bits.specs.Rows.{IsRow, ComesBefore, AreRows}
+use Rattle.cube_alg.specs.declared.cut.Piece.{Piece}
 use Rattle.net_types.specs.declared.label.Outcome.{Outcome}
 use Rattle.net_types.specs.declared.network.Row.{Row}
 use Rattle.net_types.specs.Order.{IsLabel}
@@ -30,9 +30,19 @@ IsNumberOf pairs (Some n) pair = (pair ≡ slice_get pairs n) × IsSome pair
 abbrev pub HasLabelPair : (ℕ → Option Pair) → Row → Type 0
 HasLabelPair labels r = (h : ℕ) → h < 2 ^ 112 → IsIn r.cube h → labels h ≡ Some (r.old, r.new)
 
+abbrev pub cubes_of : List Row → List Cube
+cubes_of rows = map (λ r. r.cube) rows
+
 -- the canonical rows of the function, in order, each with its pair
 pub record AreRowsWithPairs (labels : ℕ → Option Pair) (rows : List Row) : Type 0 where
   pub cubes : AreRows labels (map (λ r. r.cube) rows)
+  pub pairs : AllByRecursion (HasLabelPair labels) rows
+
+-- some of the canonical rows of the function, in order, each with its pair: of these headers each that has a pair is in one
+pub record AreRowsFor (labels : ℕ → Option Pair) (headers : ℕ → Type 0) (rows : List Row) : Type 0 where
+  pub each : All (IsRow labels) (cubes_of rows)
+  pub covers : (h : ℕ) → h < 2 ^ 112 → headers h → IsSome (labels h) → Any (λ c. IsIn c h) (cubes_of rows)
+  pub ordered : AllPairs ComesBefore (cubes_of rows)
   pub pairs : AllByRecursion (HasLabelPair labels) rows
 
 abbrev pub shown : Row → Cube × Pair

@@ -1,10 +1,6 @@
--- What is found for all headers of a region, as what came of the work on it.
-use Rattle.std.specs.Prelude.{◌≡◌, Option, Some, None}
-use Rattle.steal_pool.specs.declared.splitter.Worked.{Worked}
-use Rattle.steal_pool.specs.declared.splitter.Worked.TheVariants.{Nothing, Whole}
-use Rattle.pair_rows.specs.Pairs.{Pair}
+-- What a leaf is for the pool.
+use Rattle.std.specs.Prelude.{ℕ, ⊤, Option, Some}
 
--- nothing where there is no pair, and else the pair for all
-abbrev pub IsOf : Option Pair → Worked Pair → Type 0
-IsOf None worked = worked ≡ Nothing
-IsOf (Some pair) worked = worked ≡ Whole pair
+-- each header of each slot is to be in a leaf, of which no more is to be seen than that
+abbrev pub holds_all : ℕ → ℕ → Option ⊤
+holds_all slot h = Some tt

@@ -1,8 +1,11 @@
-ghost use Rattle.std.specs.Prelude.{◌≡◌, [], Some, IfOk, OnOk, slice_get};
+//! The pairs of labels that a function gives headers.
+
+ghost use Rattle.std.specs.Prelude.{◌≡◌, ◌++◌, ◌∷◌, [], Some, IfOk, OnOk, map, filter_map, slice_get};
 ghost use Rattle.net_types.specs.Order.{IsLabel};
 
+use cube_alg::Piece;
 use indexmap::IndexSet;
-use net_types::{Label, NoMemory, Outcome};
+use net_types::{Label, NoMemory, Outcome, Row};
 use std::alloc::Global;
 use std::marker::Model;
 
@@ -23,18 +26,19 @@ impl Model for LabelPairs {
     ghost use Rattle.std.specs.Prelude.{List, map};
     ghost use Rattle.std.specs.List.{AllByRecursion};
     ghost use Rattle.net_types.specs.declared.label.Outcome.{Outcome};
-    ghost use Rattle.pair_rows.specs.Pairs.{AreLabels};
+    ghost use Rattle.pair_rows.specs.Pairs.{AreDistinct, AreLabels};
 
     ghost Value = { List (List Outcome × List Outcome) };
 
     ghost view = { λ p. map (λ pair. (pair.old.items, pair.new.items)) p.pairs.keys };
 
-    ghost invariant = { λ p. AllByRecursion AreLabels (map (λ pair. (pair.old.items, pair.new.items)) p.pairs.keys) };
+    ghost invariant = { λ p. AllByRecursion AreLabels (map (λ pair. (pair.old.items, pair.new.items)) p.pairs.keys)
+        × AreDistinct {A = List Outcome × List Outcome} (map (λ pair. (pair.old.items, pair.new.items)) p.pairs.keys) };
 }
 
 impl LabelPairs {
     ghost use Rattle.hdr_bits.specs.Lists.{Extends};
-    ghost use Rattle.pair_rows.specs.Pairs.{AreDistinct};
+    ghost use Rattle.pair_rows.specs.Pairs.{AreDistinct, shown, shown_by};
 
     /// No pairs.
     pub fn new(alloc: Global) -> LabelPairs
@@ -70,10 +74,38 @@ impl LabelPairs {
         let new = label_of(alloc, &pair.new)?;
         Ok(Some((old, new)))
     }
+
+    /// The pieces as rows, each with the pair of its number.
+    pub(crate) fn rows_of(&self, alloc: Global, pieces: &[Piece]) -> Result<Vec<Row>, NoMemory>
+        ensures rows { IfOk result (λ rows. map shown rows.items ≡ filter_map (shown_by self.now) pieces.now) }
+        ensures distinct { AreDistinct self.now }
+    {
+        // That each pair stands once is known where the field is read.
+        let _pairs = &self.pairs;
+        let mut rows = Vec::with_capacity(alloc, pieces.len())?;
+        for piece in pieces {
+            self.add_row(alloc, piece, &mut rows)?;
+        }
+        Ok(rows)
+    }
+
+    fn add_row(&self, alloc: Global, piece: &Piece, rows: &mut Vec<Row>) -> Result<(), NoMemory>
+        ensures { OnOk result (map shown rows.new.items ≡ map shown rows.old.items ++ filter_map (shown_by self.now) (piece.now ∷ [])) }
+    {
+        let Some((old, new)) = self.get(alloc, piece.value as usize)? else {
+            return Ok(());
+        };
+        rows.push(Row {
+            cube: piece.cube,
+            old,
+            new,
+        })?;
+        Ok(())
+    }
 }
 
-/// A label of outcomes that are one.
-pub(crate) fn label_of(alloc: Global, outcomes: &[Outcome]) -> Result<Label, NoMemory>
+// A label of outcomes that are one.
+fn label_of(alloc: Global, outcomes: &[Outcome]) -> Result<Label, NoMemory>
     requires { IsLabel outcomes.now }
     ensures { IfOk result (λ label. label ≡ outcomes.now) }
 {

@@ -5,9 +5,10 @@ ghost use Rattle.pair_rows.specs.Functions.{IsFunctionOf};
 
 use crate::function::PairFunction;
 use crate::kept::{Pairing, SlotFunction};
+use crate::region_rows::RegionRows;
 use crate::work::work_on;
 use cube_alg::Region;
-use net_types::{Label, NoMemory};
+use net_types::NoMemory;
 use once_cell::race::OnceBox;
 use std::alloc::Global;
 use std::marker::PhantomData;
@@ -22,7 +23,8 @@ pub trait PairSource<K: Pairing> {
         ensures { IfOk result (IsFunctionOf (K.gives slot)) };
 }
 
-/// Divides the regions of a slot by its function, which is made where it isn't there yet.
+/// Finds the rows of the regions of a slot by its function, which is made where it isn't there yet. A region with more rows
+/// than so many is halved.
 ///
 /// Its meaning is named by its type, so any two are equal.
 #[derive_where(Clone, Copy, PartialEq, Eq)]
@@ -31,29 +33,33 @@ pub(crate) struct BySlots<'a, M, K: Pairing> {
     pub(crate) source: &'a M,
     #[derive_where(skip)]
     pub(crate) cells: &'a [OnceBox<SlotFunction<K>>],
+    #[derive_where(skip)]
+    pub(crate) most: usize,
     pub(crate) pairing: PhantomData<K>,
 }
 
-impl<'a, M, K: Pairing> Meaning for BySlots<'a, M, K> {
+impl<'a, M, K: Pairing + Send> Meaning for BySlots<'a, M, K> {
     ghost use Rattle.std.specs.Prelude.{refl};
+    ghost use Rattle.pair_rows.specs.Work.{holds_all};
 
-    type Value = (Label, Label);
+    type Value = RegionRows<K>;
 
-    ghost gives = { λ _. K.gives };
+    // Each header is in a region whose rows are found.
+    ghost gives = { λ _. holds_all };
 
     ghost same = { λ a b e slot h. refl };
 }
 
-impl<'a, M: PairSource<K>, K: Pairing> Splitter for BySlots<'a, M, K> {
-    fn work(&self, alloc: Global, region: &Region) -> Result<Worked<(Label, Label)>, NoMemory> {
+impl<'a, M: PairSource<K>, K: Pairing + Send> Splitter for BySlots<'a, M, K> {
+    fn work(&self, alloc: Global, region: &Region) -> Result<Worked<RegionRows<K>>, NoMemory> {
         if let Some(cell) = self.cells.get(region.slot as usize) {
             let kept = kept_in(alloc, cell, self.source, region.slot)?;
             if let Some(given) = kept.of_slot(region.slot) {
-                return work_on(alloc, given, region);
+                return work_on(alloc, given, region, self.most);
             }
         }
         let given = self.source.function(alloc, region.slot)?;
-        work_on(alloc, &given, region)
+        work_on(alloc, &given, region, self.most)
     }
 }
 

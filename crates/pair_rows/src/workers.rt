@@ -18,6 +18,9 @@ use std::sync::Wait;
 use std::thread::Threads;
 use steal_pool::{Gate, roots_of, run};
 
+// How many rows of a region are read off at once where the region may be divided among workers.
+const ROWS_AT_ONCE: usize = 1_024;
+
 /// The rows of each of so many slots, by 1 to 64 workers: in each slot the canonical rows of the function from headers to
 /// pairs that the source makes for it, each row with its pair.
 ///
@@ -46,11 +49,21 @@ pub fn rows_by_workers<
     let splitter = BySlots {
         source,
         cells: cells.as_slice(),
+        most: most_at_once(workers),
         pairing: PhantomData,
     };
     let leaves = run(rt, alloc, roots.as_slice(), splitter, workers, gate)?;
-    let all = rows_of_leaves(rt, alloc, slots, &leaves, workers)?;
+    let all = rows_of_leaves(rt, alloc, source, slots, leaves, workers)?;
     Ok(all)
+}
+
+// How many rows of a region are read off at once. One worker has nobody to share with.
+fn most_at_once(workers: u32) -> usize {
+    if workers == 1 {
+        usize::MAX
+    } else {
+        ROWS_AT_ONCE
+    }
 }
 
 // A cell for each slot.

@@ -14,5 +14,4 @@ loop-two-preserved c =
     record {
       told = rw c.in_ok-push.ensures.items (rw more all);
       count = rw c.in_ok-push.ensures.items (rw more (longer (take i xs) (get_or xs i none) c.loop-two.told.items c.in_ok-number.number c.loop-two.invariant.count));
-      distinct = c.in_ok-number.ensures.distinct;
     }

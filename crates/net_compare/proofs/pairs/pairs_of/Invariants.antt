@@ -1,5 +1,4 @@
 use Rattle.std.proofs.Common.{take, length, ◌≡◌}
-use Rattle.pair_rows.specs.Pairs.{AreDistinct}
 use Rattle.net_compare.specs.Rows.{AreTold}
 use Rattle.net_compare.proofs.pairs.pairs_of.Given as goal
 
@@ -7,5 +6,4 @@ abbrev pub invariant-loop-two : goal.invariant-loop-two
 invariant-loop-two l = record {
   told : AreTold l.old l.new l.pairs (take l.two-index l.numbers) l.told.items;
   count : length l.told.items ≡ length (take l.two-index l.numbers);
-  distinct : AreDistinct l.pairs;
 }

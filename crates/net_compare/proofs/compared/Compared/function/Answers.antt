@@ -10,7 +10,7 @@ pub returns-in_ok-none-in-None-clause-given : goal.returns-in_ok-none-in-None-cl
 returns-in_ok-none-in-None-clause-given g c =
     let old = world_of c.self.inside.old.now.world in
     let new = world_of c.self.inside.new.now.world in
-    let named = c.self.invariant.6 in
+    let named = c.self.invariant.2 in
     let past = slice_get_past c.self.inside.ingress.now c.args.slot c.in-None.ensures.lookup.3 in
     c.in_ok-none-in-None.ensures (g.K.Pairing.gives c.args.slot)
     (λ h l. ap (λ (f : ℕ → ℕ → Option Pair). f c.args.slot h) named ∙ ap (λ (o : Option Place). affected_at old new c.self.inside.ttl o h) past)

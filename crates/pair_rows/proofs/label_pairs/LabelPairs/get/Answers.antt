@@ -17,13 +17,13 @@ found ks n k e = slice_get-map labels ks n ∙ ap (option_map labels) (sym e)
 pub label_of-requires : goal.label_of-requires
 label_of-requires c =
     let at = found c.self.inside.pairs.keys c.args.number c.in-Some.pair.now c.in-Some.ensures.key in
-    let both = holds_at AreLabels (map labels c.self.inside.pairs.keys) c.args.number (labels c.in-Some.pair.now) c.self.invariant at in
+    let both = holds_at AreLabels (map labels c.self.inside.pairs.keys) c.args.number (labels c.in-Some.pair.now) c.self.invariant.0 at in
     subst IsLabel (sym c.deref.ensures.value) both.0
 
 pub label_of-requires-2 : goal.label_of-requires-2
 label_of-requires-2 c =
     let at = found c.self.inside.pairs.keys c.args.number c.in-Some.pair.now c.in-Some.ensures.key in
-    let both = holds_at AreLabels (map labels c.self.inside.pairs.keys) c.args.number (labels c.in-Some.pair.now) c.self.invariant at in
+    let both = holds_at AreLabels (map labels c.self.inside.pairs.keys) c.args.number (labels c.in-Some.pair.now) c.self.invariant.0 at in
     subst IsLabel (sym c.deref-2.ensures.value) both.1
 
 pub returns : goal.returns

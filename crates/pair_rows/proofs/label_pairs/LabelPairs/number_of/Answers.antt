@@ -1,4 +1,4 @@
-use Rattle.std.proofs.Common.{◌≡◌, List, refl, sym, ◌∙◌}
+use Rattle.std.proofs.Common.{◌≡◌, List, map, refl, sym, subst, ◌∙◌}
 use Rattle.std.specs.Prelude.{Decides}
 use Rattle.std.proofs.lemmas.Bool.Decides.{Decides-and}
 use Rattle.std.proofs.lemmas.Slice.Eq.{slice_eq-Decides}
@@ -8,6 +8,10 @@ use Rattle.pair_rows.specs.declared.label_pairs.LabelPair.{LabelPair}
 use Rattle.net_types.specs.contracts.label.OutcomePartialEq.TheImpl.{eq-value as outcome_eq}
 use Rattle.pair_rows.specs.contracts.label_pairs.LabelPairPartialEq.TheImpl.{eq-value}
 use Rattle.std.specs.Cmp.Lexicographic.{pointwise}
+use Rattle.std.specs.List.{AllByRecursion, list_any}
+use Rattle.net_types.specs.Order.{IsLabel}
+use Rattle.pair_rows.proofs.ListLemmas.{recursion_inserted}
+use Rattle.pair_rows.specs.Pairs.{AreLabels}
 use Rattle.pair_rows.proofs.NumberLemmas.{item_at, distinct_items}
 use Rattle.pair_rows.proofs.label_pairs.LabelPairs.number_of.Goals as goal
 
@@ -33,3 +37,14 @@ returns-clause-number c =
 pub returns-clause-distinct : goal.returns-clause-distinct
 returns-clause-distinct c =
     distinct_items labels eq-value.it decides c.insert_full.new.self.keys c.insert_full.ensures.unique
+
+pub invariant_of-self-2 : goal.invariant_of-self-2
+invariant_of-self-2 c =
+    let given : LabelPair = record { old = c.in_ok-to_vec.field-0; new = c.in_ok-to_vec-2.field-0 } in
+    let old = c.in_ok-to_vec.ensures.items_if_clones_equal (λ x y h. h) in
+    let new = c.in_ok-to_vec-2.ensures.items_if_clones_equal (λ x y h. h) in
+    let are : AreLabels (labels given) = (subst IsLabel (sym (old ∙ c.as_slice.ensures.same)) c.as_slice.ensures.label, subst IsLabel (sym (new ∙ c.as_slice-2.ensures.same)) c.as_slice-2.ensures.label) in
+    let keys : List LabelPair = c.self.inside.pairs.keys in (
+      subst (λ (ks : List LabelPair). AllByRecursion AreLabels (map labels ks)) (sym c.in_ok-number.ensures.keys) (recursion_inserted labels AreLabels (list_any (eq-value.it given) keys) keys given are c.self.invariant.0),
+      distinct_items labels eq-value.it decides c.insert_full.new.self.keys c.insert_full.ensures.unique,
+    )
