@@ -5,21 +5,18 @@ use Rattle.std.proofs.lemmas.List.{take_more}
 use Rattle.std.proofs.lemmas.List.Elements.{Contains-append_cases}
 use Rattle.std.proofs.lemmas.Bool.{cases_lt}
 use Rattle.hdr_bits.specs.declared.header.Header.{Header}
-use Rattle.hdr_bits.specs.declared.cube.Cube.{Cube}
 use Rattle.hdr_bits.specs.HeaderBits.{number}
-use Rattle.hdr_bits.specs.CubeBits.{IsStar}
 use Rattle.cube_diagram.specs.Functions.{Functions, Keeps, count_of, value_at}
 use Rattle.cube_diagram.specs.Combined.{if_both}
-use Rattle.cube_diagram.specs.Images.{retold}
-use Rattle.cube_diagram.specs.Reach.{GivesOnly}
+use Rattle.cube_diagram.specs.Images.{if_value, retold}
 use Rattle.net_types.specs.declared.network.Move.{Move}
 use Rattle.net_types.proofs.Members.{in_one}
 use Rattle.set_walk.specs.declared.step.Way.{Way}
 use Rattle.set_walk.specs.Sets.{InSet}
-use Rattle.place_ways.specs.Adding.{AddsWays, AreGiven, HasValue, IsInRange, IsRange, MakesAny, TellsRange}
-use Rattle.place_ways.proofs.SetLemmas.{keeps_then, kept_below}
+use Rattle.place_ways.specs.Adding.{AddsWays, AreGiven, ByOne, HasValue, IsInRange, IsPartOf, IsRange, MakesAny, TellsRange}
+use Rattle.place_ways.proofs.SetLemmas.{keeps_then, kept_below, value_some}
 use Rattle.place_ways.proofs.AddLemmas.{adds_then, adds_same, adds_from}
-use Rattle.place_ways.proofs.AmongLemmas.{in_all, some_value}
+use Rattle.place_ways.proofs.AmongLemmas.{some_value}
 
 -- ---- lists of what is told
 -- it is told of the values before the end
@@ -96,16 +93,14 @@ largest_more xs i one m n l e lm lo t v c =
       | inr a ↦ let b = in_one one v a in omega (arith, b, lo)
     ]
 
--- all values of a function
-pub whole_range : (f : Functions) (function largest count : ℕ) (all : Cube) (values : List ℕ) → function < count_of f → ((k : ℕ) → k < 112 → IsStar all k) → GivesOnly (value_at f function) all values → ((v : ℕ) → Contains values v → v ≤ largest) → largest < count → IsRange f function 0 count f function
-whole_range f function largest count all values l stars only most more =
+-- all values of a part of a function
+pub whole_range : (f : Functions) (function part count : ℕ) (values : List ℕ) → IsPartOf f function part → ((n v : ℕ) → value_at f part n ≡ Some v → Contains values v) → ((v : ℕ) → Contains values v → v < count) → IsInRange f function 0 count f part
+whole_range f function part count values p among below =
     record {
-      below = l;
-      exact = λ n v.
-          let same : v ≡ 0 + v = omega arith in (
-            λ e. let b = most v (only.each n v (in_all all n stars) e) in (omega (arith, b, more), e ∙ ap Some same),
-            λ x. x.1 ∙ ap Some (sym same),
-          );
+      below = p.below;
+      tells = λ n v e.
+          let z : v ≡ 0 + v = omega arith in
+          (below v (among n v e), p.tells n v e ∙ ap Some z);
     }
 
 pub range_kept : (f g : Functions) (function first count part : ℕ) → Keeps f g → function < count_of f → IsInRange f function first count f part → IsInRange g function first count g part
@@ -123,16 +118,19 @@ if_first x None v e = absurd cc
 if_first None (Some u) v e = absurd cc
 if_first (Some w) (Some u) v e = e
 
--- of headers of a scope
-pub scoped_range : (f g : Functions) (function scope count part : ℕ) → Keeps f g → function < count_of f → ((n : ℕ) → value_at g part n ≡ if_both (value_at f function n) (value_at f scope n)) → IsRange g part 0 count g part → IsInRange g function 0 count g part
-scoped_range f g function scope count part k l e r =
+-- what it gives headers of a scope
+pub scoped_part : (f g : Functions) (function scope part : ℕ) → Keeps f g → function < count_of f → part < count_of g → ((n : ℕ) → value_at g part n ≡ if_both (value_at f function n) (value_at f scope n)) → IsPartOf g function part
+scoped_part f g function scope part k l b e =
     record {
-      below = r.below;
-      tells = λ n v q.
-          let x = (r.exact n v).0 q in
-          let s : value_at f function n ≡ Some v = if_first (value_at f function n) (value_at f scope n) v (sym (e n) ∙ q) in
-          let z : v ≡ 0 + v = omega arith in
-          (x.0, k.value function l n ∙ (s ∙ ap Some z));
+      below = b;
+      tells = λ n v q. k.value function l n ∙ if_first (value_at f function n) (value_at f scope n) v (sym (e n) ∙ q);
+    }
+
+pub part_kept : (f g : Functions) (function part : ℕ) → Keeps f g → function < count_of f → IsPartOf f function part → IsPartOf g function part
+part_kept f g function part k l p =
+    record {
+      below = kept_below f g part k p.below;
+      tells = λ n v e. k.value function l n ∙ p.tells n v (sym (k.value part p.below n) ∙ e);
     }
 
 -- a part of a part
@@ -184,3 +182,23 @@ halves_added f g1 g2 g3 g4 function first count given m low high moves a b c k1 
       ],
       λ z. elim (in_halves f g1 g2 g3 function first count given m low high (number h) l e r p q z.0) [ inl i ↦ inl (i, z.1) | inr i ↦ inr (i, z.1) ],
     )) (adds_then f g2 g4 _ _ a b c (adds_from f g1 g2 _ a b k1 t x) (adds_from g2 g3 g4 _ b c k3 x.given y))
+
+-- ---- ways of each value
+pub value_kept : (f g : Functions) (function one n : ℕ) (P : Type 0) → Keeps f g → function < count_of f → ((value_at g function n ≡ Some one) × P) ↔ ((value_at f function n ≡ Some one) × P)
+value_kept f g function one n P k l =
+    let e = k.value function l n in
+    (λ x. (sym e ∙ x.0, x.1), λ x. (e ∙ x.0, x.1))
+
+pub one_added : (f g k : Functions) (function one given : ℕ) (moves : Header → List Move) (a b : List Way) → Keeps f g → AreGiven f a → ((n : ℕ) → value_at g given n ≡ if_value one (value_at f function n)) → AddsWays g k (MakesAny g given moves) a b → AddsWays f k (λ h m. HasValue f function one h × Contains (moves h) m) a b
+one_added f g k function one given moves a b r t e p =
+    adds_from f g k _ a b r t (adds_same g k _ _ a b (λ h v m. let s = value_some one (value_at f function (number h)) in (
+      λ x. (s.0 (subst (λ o. IsSome o) (e (number h)) x.0), x.1),
+      λ x. (subst (λ o. IsSome o) (sym (e (number h))) (s.1 x.0), x.1),
+    )) p)
+
+pub each_added : (f k : Functions) (function : ℕ) (values : List ℕ) (moves : Header → List Move) (a b : List Way) → ((n v : ℕ) → value_at f function n ≡ Some v → Contains values v) → AddsWays f k (λ h m. ByOne (λ v. HasValue f function v h × Contains (moves h) m) values) a b → AddsWays f k (MakesAny f function moves) a b
+each_added f k function values moves a b among p =
+    adds_same f k _ _ a b (λ h v m. (
+      λ x. (has_some (value_at f function (number h)) x.one x.is.0, x.is.1),
+      λ x. let o = some_value (value_at f function (number h)) x.0 in record { one = o.0; among = among (number h) o.0 o.1; is = (o.1, x.1) },
+    )) p

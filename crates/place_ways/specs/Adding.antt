@@ -63,6 +63,11 @@ pub record IsInRange (fs : Functions) (function first count : ℕ) (gs : Functio
   pub below : part < count_of gs
   pub tells : (n v : ℕ) → value_at gs part n ≡ Some v → (v < count) × (value_at fs function n ≡ Some (first + v))
 
+-- the part gives a header only what the function gives it
+pub record IsPartOf (fs : Functions) (function part : ℕ) : Type 0 where
+  pub below : part < count_of fs
+  pub tells : (n v : ℕ) → value_at fs part n ≡ Some v → value_at fs function n ≡ Some v
+
 -- the list tells of each of these values how far it is from the first, and nothing of others
 abbrev pub TellsRange : ℕ → ℕ → List (Option ℕ) → Type 0
 TellsRange first count told = (u v : ℕ) → (retold told (Some u) ≡ Some v) ↔ ((v < count) × (u ≡ first + v))

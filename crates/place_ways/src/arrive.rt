@@ -14,7 +14,7 @@ ghost use Rattle.place_ways.specs.Seats.{AreWaysIn, IsWaySeat};
 use crate::add::add_way;
 use crate::parts::{Part, Translation, parts_of};
 use crate::seat::WaySeat;
-use crate::sets::{before_stamp, both, where_value, without};
+use crate::sets::{before_stamp, both, where_passed, without};
 use cube_alg::Stamp;
 use cube_diagram::Diagrams;
 use net_types::NoMemory;
@@ -40,7 +40,7 @@ pub(crate) fn add_arrivals(
         add_way(table, ways, Step::Drop, at.scope)?;
         return Ok(());
     }
-    let passed = where_value(table, at.form.input, 1, at.scope)?;
+    let passed = where_passed(table, at.form.input, at.scope)?;
     let denied = without(table, at.scope, passed)?;
     add_way(table, ways, Step::Drop, denied)?;
     add_let_in(alloc, table, at, base, passed, ways)?;

@@ -16,7 +16,7 @@ ghost use Rattle.place_ways.specs.Seats.{AreWaysIn, IsWaySeat};
 use crate::arrive::add_arrivals;
 use crate::forward::ways_in;
 use crate::seat::WaySeat;
-use crate::sets::where_value;
+use crate::sets::where_passed;
 use cube_diagram::Diagrams;
 use net_types::NoMemory;
 use net_view::{is_enabled, is_inside, is_outside};
@@ -114,7 +114,7 @@ fn takes_all(table: &mut Diagrams, at: WaySeat) -> Result<bool, NoMemory>
     if is_outside(at.seat.interface.side) {
         return Ok(false);
     }
-    let passed = where_value(table, at.form.input, 1, at.scope)?;
+    let passed = where_passed(table, at.form.input, at.scope)?;
     Ok(passed == at.scope)
 }
 

@@ -18,7 +18,7 @@ use crate::add::join_way;
 use crate::link::{Link, add_sent};
 use crate::parts::{Part, Translation, parts_of};
 use crate::seat::{WaySeat, out_named};
-use crate::sets::{where_value_after, without};
+use crate::sets::{where_passed_after, without};
 use cube_alg::Stamp;
 use cube_diagram::Diagrams;
 use fib_lookup::HopForm;
@@ -164,7 +164,7 @@ fn add_passed(
     ensures added { OnOk result (AddsWays table.old table.new (Makes table.old given (λ h. leaves leaving.entry h (applied stamp h))) ways.old.items ways.new.items) }
     ensures kept { Keeps table.old table.new }
 {
-    let passed = where_value_after(alloc, table, leaving.out.form.output, 1, &stamp, given)?;
+    let passed = where_passed_after(alloc, table, leaving.out.form.output, &stamp, given)?;
     let lost = without(table, given, passed)?;
     join_way(table, ways, Step::Lost, lost)?;
     let link = Link {

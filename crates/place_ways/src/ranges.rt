@@ -5,7 +5,6 @@ ghost use Rattle.cube_diagram.specs.Functions.{Keeps, count_of};
 ghost use Rattle.place_ways.specs.Adding.{IsRange, TellsRange};
 
 use cube_diagram::Diagrams;
-use hdr_bits::Cube;
 use net_types::NoMemory;
 use std::alloc::Global;
 
@@ -40,19 +39,16 @@ fn range_told(alloc: Global, first: u32, count: u32) -> Result<Vec<Option<u32>>,
     Ok(told)
 }
 
-/// A number above 0 and above all values of the function.
+/// A number above 0 and above these values.
 ///
 /// # Errors
 ///
-/// There was no memory, or the largest number is a value.
-pub(crate) fn values_below(alloc: Global, table: &Diagrams, function: u32) -> Result<u32, NoMemory>
-    requires { function < count_of table.now }
-    ensures some { IfOk result (λ count. 0 < count) }
-    ensures range { IfOk result (λ count. IsRange table.now function 0 count table.now function) }
+/// The largest number is one of the values: none is above it.
+pub(crate) fn number_above(values: &[u32]) -> Result<u32, NoMemory>
+    ensures some { IfOk result (λ n. 0 < n) }
+    ensures above { IfOk result (λ n. (v : ℕ) → Contains values.now v → v < n) }
 {
-    let values = table.values_on(alloc, function, &Cube::all())?;
-    let largest = largest(values.as_slice());
-    let Some(count) = largest.checked_add(1) else {
+    let Some(count) = largest(values).checked_add(1) else {
         return Err(NoMemory);
     };
     Ok(count)

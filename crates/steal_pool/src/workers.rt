@@ -21,7 +21,10 @@ use std::thread::Threads;
 use task_board::{Board, Leaf};
 
 // How many regions can be pushed to all lanes. Those that find no room are left to the calling thread.
-const CAPACITY: usize = 262_144;
+const CAPACITY: usize = 65_536;
+
+// How many to the lane of one worker. The calling thread works on those that are left no later than it would.
+const CAPACITY_ALONE: usize = 1024;
 
 // In so many rounds one thief is split into 64.
 const ROUNDS: u32 = 6;
@@ -92,6 +95,9 @@ fn crowd(alloc: Global, first: Thief, count: usize) -> Result<Vec<Thief>, NoMemo
 fn capacity_of(lanes: usize) -> usize
     ensures { (1 ≤ result) × (result ≤ 1048576) }
 {
+    if lanes < 2 {
+        return CAPACITY_ALONE;
+    }
     (CAPACITY / lanes.max(4)).max(1)
 }
 
@@ -197,7 +203,7 @@ fn run_as<
 ///
 /// The leaves are pairwise disjoint, each is inside a root, each has the splitter's value of all its headers, and no
 /// header of a root outside them has a value. A worker passes the gate before it works on a task. What the workers leave
-/// for want of memory, the calling thread works on when they have ended, without the gate.
+/// for want of memory, or of room in their lanes, the calling thread works on when they have ended, without the gate.
 pub fn run<S: Splitter + Send + Sync, G: Gate + Sync, R: Threads + Wait + Sync>(
     rt: &R,
     alloc: Global,

@@ -20,27 +20,27 @@ returns-then-not-is_enabled-clause-added c =
     let i = seat.interface in
     shut_added c.args.table.now c.args.at.scope (moves_at w (Some seat)) c.args.ways.now.items c.add_way.new.ways.items (λ h. closed (is_enabled i) (passes_list seat.device.config i.input h) (moves_in w seat (coming_in seat h)) (Drop ∷ []) (sym c.is_enabled.ensures ∙ c.if-not-is_enabled.true)) c.in_ok-add_way.ensures
 
-pub where_value-requires-clause-function : goal.where_value-requires-clause-function
-where_value-requires-clause-function c = c.requires.at.form.input.below
+pub where_passed-requires-clause-list : goal.where_passed-requires-clause-list
+where_passed-requires-clause-list c = c.requires.at.form.input.below
 
 pub add_way-requires-2-clause-ways : goal.add_way-requires-2-clause-ways
 add_way-requires-2-clause-ways c =
     let d0 = c.args.table.now in
-    let d1 = c.where_value.new.table in
+    let d1 = c.where_passed.new.table in
     let d2 = c.without.new.table in
     given_kept d0 d2 c.args.ways.now.items (keeps_then d0 d1 d2 c.in_ok-passed.ensures.kept c.in_ok-denied.ensures.kept) c.requires.ways
 
 pub add_let_in-requires-clause-at : goal.add_let_in-requires-clause-at
 add_let_in-requires-clause-at c =
     let d0 = c.args.table.now in
-    let d1 = c.where_value.new.table in
+    let d1 = c.where_passed.new.table in
     let d2 = c.without.new.table in
     at_kept d0 d2 c.args.at (keeps_then d0 d1 d2 c.in_ok-passed.ensures.kept c.in_ok-denied.ensures.kept) c.requires.at
 
 pub add_let_in-requires-clause-base : goal.add_let_in-requires-clause-base
 add_let_in-requires-clause-base c =
     let d0 = c.args.table.now in
-    let d1 = c.where_value.new.table in
+    let d1 = c.where_passed.new.table in
     let d2 = c.without.new.table in
     ways_in_kept d0 d2 c.args.at c.args.base.now (keeps_then d0 d1 d2 c.in_ok-passed.ensures.kept c.in_ok-denied.ensures.kept) c.requires.at.scope c.requires.base
 
@@ -51,7 +51,7 @@ returns-clause-added c =
     let i = seat.interface in
     let list = list_named seat.device.config i.input in
     let d0 = c.args.table.now in
-    let d1 = c.where_value.new.table in
+    let d1 = c.where_passed.new.table in
     let d2 = c.without.new.table in
     let d3 = c.add_let_in.new.table in
     let p = c.in_ok-passed in
@@ -63,7 +63,7 @@ returns-clause-added c =
 pub returns-clause-kept : goal.returns-clause-kept
 returns-clause-kept c =
     let d0 = c.args.table.now in
-    let d1 = c.where_value.new.table in
+    let d1 = c.where_passed.new.table in
     let d2 = c.without.new.table in
     let d3 = c.add_let_in.new.table in
     keeps_then d0 d1 d3 c.in_ok-passed.ensures.kept (keeps_then d1 d2 d3 c.in_ok-denied.ensures.kept c.in_ok-add_let_in.ensures.kept)
@@ -71,16 +71,16 @@ returns-clause-kept c =
 pub add_way-requires-clause-headers : goal.add_way-requires-clause-headers
 add_way-requires-clause-headers c = c.requires.at.scope
 
-pub where_value-requires-clause-given : goal.where_value-requires-clause-given
-where_value-requires-clause-given c = c.requires.at.scope
+pub where_passed-requires-clause-given : goal.where_passed-requires-clause-given
+where_passed-requires-clause-given c = c.requires.at.scope
 
 pub without-requires-clause-first : goal.without-requires-clause-first
-without-requires-clause-first c = kept_below c.args.table.now c.where_value.new.table c.args.at.scope c.in_ok-passed.ensures.kept c.requires.at.scope
+without-requires-clause-first c = kept_below c.args.table.now c.where_passed.new.table c.args.at.scope c.in_ok-passed.ensures.kept c.requires.at.scope
 
 pub add_let_in-requires-clause-within : goal.add_let_in-requires-clause-within
 add_let_in-requires-clause-within c h v i =
     let d0 = c.args.table.now in
-    let d1 = c.where_value.new.table in
+    let d1 = c.where_passed.new.table in
     let d2 = c.without.new.table in
     let p = c.in_ok-passed in
     let j = (kept_set d1 d2 p.passed h c.in_ok-denied.ensures.kept p.ensures.below).0 i in

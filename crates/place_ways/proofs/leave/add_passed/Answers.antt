@@ -10,13 +10,13 @@ use Rattle.place_ways.proofs.leave.add_passed.Goals as goal
 pub join_way-requires-clause-ways : goal.join_way-requires-clause-ways
 join_way-requires-clause-ways c =
     let d0 = c.args.table.now in
-    let d1 = c.where_value_after.new.table in
+    let d1 = c.where_passed_after.new.table in
     let d2 = c.without.new.table in
     given_kept d0 d2 c.args.ways.now.items (keeps_then d0 d1 d2 c.in_ok-passed.ensures.kept c.in_ok-lost.ensures.kept) c.requires.ways
 
 pub add_sent-requires-clause-given : goal.add_sent-requires-clause-given
 add_sent-requires-clause-given c =
-    let d1 = c.where_value_after.new.table in
+    let d1 = c.where_passed_after.new.table in
     let d2 = c.without.new.table in
     let d3 = c.join_way.new.table in
     kept_below d1 d3 c.in_ok-passed.passed (keeps_then d1 d2 d3 c.in_ok-lost.ensures.kept c.in_ok-join_way.ensures.kept) c.in_ok-passed.ensures.below
@@ -25,7 +25,7 @@ pub returns-clause-added : goal.returns-clause-added
 returns-clause-added c =
     let w = c.args.leaving.at.wiring.now in
     let d0 = c.args.table.now in
-    let d1 = c.where_value_after.new.table in
+    let d1 = c.where_passed_after.new.table in
     let d2 = c.without.new.table in
     let d3 = c.join_way.new.table in
     let d4 = c.add_sent.new.table in
@@ -38,7 +38,7 @@ returns-clause-added c =
 pub returns-clause-kept : goal.returns-clause-kept
 returns-clause-kept c =
     let d0 = c.args.table.now in
-    let d1 = c.where_value_after.new.table in
+    let d1 = c.where_passed_after.new.table in
     let d2 = c.without.new.table in
     let d3 = c.join_way.new.table in
     let d4 = c.add_sent.new.table in
