@@ -4,3 +4,4 @@ pub mod KindLemmas
 pub mod LoopLemmas
 pub mod FindingLemmas
 pub mod RowLemmas
+pub mod UnionLemmas

@@ -1,6 +1,7 @@
 -- What is known within the loops over the entries.
-use Rattle.std.proofs.Common.{ℕ, zero, suc, ◌≡◌, ◌<◌, ◌+◌, ◌-◌, ◌==◌, inl, inr, Bool, true, false, cond, ◌||◌, ◌&&◌, List, [], ◌∷◌, ◌++◌, take, drop, length, get_or, Option, Some, None, option_and_then, refl, ap, sym, ◌∙◌, subst, arith, if◌then◌else◌}
+use Rattle.std.proofs.Common.{ℕ, zero, suc, ◌≡◌, ◌<◌, ◌≤◌, ◌+◌, ◌-◌, ◌==◌, inl, inr, Bool, true, false, cond, ◌||◌, ◌&&◌, List, [], ◌∷◌, ◌++◌, take, drop, length, get_or, slice_get, Option, Some, None, option_and_then, refl, ap, sym, ◌∙◌, subst, arith, if◌then◌else◌}
 use Rattle.std.proofs.lemmas.Bool.{cases_eq, cases_lt}
+use Rattle.std.proofs.lemmas.Option.{get_or_from_slice_get, slice_get_cases, slice_get_read, slice_get_within}
 use Rattle.std.proofs.Math.Bool.{or-false, and-true}
 use Rattle.std.proofs.Math.Seq.{drop-length}
 use Rattle.std.proofs.lemmas.List.{take_more, drop_more, get_or_append_left, get_or_push, length-append}
@@ -10,9 +11,46 @@ use Rattle.cube_diagram.proofs.ImageLemmas.{value_same, value_other, inserted}
 use Rattle.net_types.specs.declared.config.Entry.{Entry}
 use Rattle.net_types.specs.AccessLists.{matches, entries_verdict}
 use Rattle.acl_audit.specs.Findings.{is_by}
-use Rattle.acl_audit.specs.Sets.{IsSet, AreTails, AreDecided, if_true, any_matches, passes_to}
+use Rattle.acl_audit.specs.Sets.{IsSet, AreMatched, AreTails, AreDecided, if_true, any_matches, passes_to}
 use Rattle.acl_audit.proofs.SetLemmas.{kept_set, same_set, keeps_then, keeps_same}
 use Rattle.acl_audit.proofs.ListLemmas.{decides, is_by-decides, decides-more, any-more, reaches}
+
+-- ---- what is matched
+pub record HasMatched (start now : Functions) (es : List Entry) (k : ℕ) (sets : List ℕ) : Type 0 where
+  pub kept : Keeps start now
+  pub long : length sets ≡ k
+  pub each : (i : ℕ) (e : Entry) → i < k → slice_get es i ≡ Some e → IsSet now (λ h. matches e (header_of h)) (get_or sets i 0)
+
+pub matched_more : (start f g : Functions) (es : List Entry) (k : ℕ) (sets : List ℕ) (e : Entry) (r : ℕ) → e ≡ get_or es k e → Keeps f g → HasMatched start f es k sets → IsSet g (λ h. matches e (header_of h)) r → HasMatched start g es (k + 1) (sets ++ r ∷ [])
+matched_more start f g es k sets e r q p a s =
+    let m = length-append sets (r ∷ []) in
+    let long = a.long in
+    record {
+      kept = keeps_then start f g a.kept p;
+      long = omega (arith, m, long);
+      each = λ i x l o. elim (cases_lt i k) [
+        | inl b ↦ subst (λ y. IsSet g (λ h. matches x (header_of h)) y) (sym (get_or_append_left sets (r ∷ []) 0 i (omega (arith, long, b)))) (kept_set f g (λ h. matches x (header_of h)) (get_or sets i 0) p (a.each i x b o))
+        | inr b ↦ (let w : i ≡ k = omega (arith, l, b) in
+            let same : e ≡ x = q ∙ (ap (λ n. get_or es n e) (sym w) ∙ get_or_from_slice_get es i x e o) in
+            subst (λ y. IsSet g (λ h. matches x (header_of h)) y) (sym (get_or_push sets r 0 i (long ∙ sym w))) (subst (λ y. IsSet g (λ h. matches y (header_of h)) r) same s))
+      ];
+    }
+
+pub matched_all : (start f : Functions) (es : List Entry) (sets : List ℕ) (k : ℕ) → length es ≤ k → k ≤ length es → HasMatched start f es k sets → AreMatched f es sets
+matched_all start f es sets k l m a =
+    let long = a.long in
+    record { all = omega (arith, l, m, long); each = λ i e o. (let b = slice_get_within es i e o in a.each i e (omega (arith, l, b)) o) }
+
+pub matched_at : (start f : Functions) (es : List Entry) (sets : List ℕ) (k : ℕ) (e : Entry) → k < length es → e ≡ get_or es k e → Keeps start f → AreMatched start es sets → IsSet f (λ h. matches e (header_of h)) (get_or sets k 0)
+matched_at start f es sets k e l q p a =
+    kept_set start f (λ h. matches e (header_of h)) (get_or sets k 0) p (a.each k e (slice_get_read es (length es) k e refl l q))
+
+pub matched_below : (f g : Functions) (es : List Entry) (sets : List ℕ) (k : ℕ) → k < length es → Keeps f g → AreMatched f es sets → get_or sets k 0 < count_of g
+matched_below f g es sets k l p a =
+    elim (slice_get_cases es k).1 [
+      | inl q ↦ (let b = (a.each k q.0 q.2).below in let c = p.count in omega (arith, b, c))
+      | inr q ↦ absurd (let m = q.0 in omega (arith, l, m))
+    ]
 
 -- ---- tails
 pub record HasTails (start now : Functions) (es : List Entry) (tails : List ℕ) (tail count : ℕ) : Type 0 where

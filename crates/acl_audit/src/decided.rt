@@ -7,32 +7,34 @@ ghost use Rattle.net_types.specs.AccessLists.{entries_verdict};
 ghost use Rattle.cube_diagram.specs.Functions.{Keeps, count_of};
 ghost use Rattle.acl_audit.specs.Findings.{is_by};
 ghost use Rattle.net_types.specs.declared.config.Entry.{Entry};
-ghost use Rattle.acl_audit.specs.Sets.{IsSet, AreDecided, AreNumbers};
+ghost use Rattle.acl_audit.specs.Sets.{IsSet, AreDecided, AreMatched, AreNumbers};
 
-use crate::sets::{add_set, match_set};
+use crate::sets::add_set;
 use cube_diagram::Diagrams;
 use indexmap::IndexMap;
 use net_types::Entry;
 use no_memory::NoMemory;
 use std::alloc::Global;
 
-/// By sequence numbers the sets of headers that the entries decide.
+/// By sequence numbers the sets of headers that the entries decide. `matched` has the sets of those that they match.
 pub(crate) fn decided_sets(
     alloc: Global,
     diagrams: &mut Diagrams,
     entries: &[Entry],
+    matched: &[u32],
 ) -> Result<IndexMap<u32, u32>, NoMemory>
+    requires { AreMatched diagrams.old entries.now matched.now }
     ensures sets { IfOk result (λ decided. AreDecided diagrams.new entries.now (get nat_eq decided)) }
     ensures kept { Keeps diagrams.old diagrams.new }
 {
     let mut decided = IndexMap::new(alloc);
     let mut head = diagrams.nothing();
-    for e in entries {
-        let matched = match_set(alloc, diagrams, e)?;
-        let own = diagrams.without(matched, head)?;
+    for i in 0..entries.len() {
+        let e = &entries[i];
+        let own = diagrams.without(matched[i], head)?;
         let all = add_set(diagrams, decided_by(diagrams, &decided, e.sequence), own)?;
         decided.insert(e.sequence, all)?;
-        head = add_set(diagrams, head, matched)?;
+        head = add_set(diagrams, head, matched[i])?;
     }
     Ok(decided)
 }

@@ -1,41 +1,39 @@
 //! Whether an entry is dead or redundant.
 
-ghost use Rattle.std.specs.Prelude.{◌≡◌, ◌<◌, ◌+◌, ◌==◌, Some, List, nat_eq, slice_get, take, drop, IfOk, IsTrue, ◌↔◌, length};
-ghost use Rattle.indexmap.specs.IndexMap.{get};
+ghost use Rattle.std.specs.Prelude.{◌≡◌, ◌<◌, ◌+◌, ◌==◌, Some, ℕ, List, slice_get, take, drop, IfOk, IsTrue, ◌↔◌, length};
 ghost use Rattle.hdr_bits.specs.declared.header.Header.{Header};
 ghost use Rattle.hdr_bits.specs.HeaderBits.{IsHeader};
 ghost use Rattle.net_types.specs.AccessLists.{entries_verdict, passes};
 ghost use Rattle.std.specs.List.{remove};
 ghost use Rattle.net_types.specs.declared.config.Entry.{Entry};
-ghost use Rattle.cube_diagram.specs.Functions.{Keeps};
+ghost use Rattle.cube_diagram.specs.Functions.{Keeps, count_of};
 ghost use Rattle.acl_audit.specs.Findings.{IsKind, IsDead};
-ghost use Rattle.acl_audit.specs.Sets.{IsSet, AreTails, AreDecided, AreNumbers, any_matches, passes_to};
+ghost use Rattle.acl_audit.specs.Sets.{IsSet, AreTails, any_matches, decided_in, passes_to};
 
-use crate::decided::decided_by;
 use crate::finding::FindingKind;
 use cube_diagram::Diagrams;
-use indexmap::IndexMap;
 use net_types::Entry;
 use no_memory::NoMemory;
 
-/// The kind of the entry at a position, if it is of one. `head` is the set of headers that an entry before it matches.
+/// The kind of the entry at a position, if it is of one. `own` is the set of headers that are decided under its sequence
+/// number, `head` that of those that an entry before it matches.
 pub(crate) fn kind_of(
     diagrams: &mut Diagrams,
     entries: &[Entry],
     position: usize,
+    own: u32,
     head: u32,
-    decided: &IndexMap<u32, u32>,
     tails: &[u32],
 ) -> Result<Option<FindingKind>, NoMemory>
     requires position { position < length entries.now }
     requires head { IsSet diagrams.old (any_matches (take position entries.now)) head }
-    requires decided { AreDecided diagrams.old entries.now (get nat_eq decided.now) }
+    requires own { IsSet diagrams.old (decided_in entries.now 0 position) own }
     requires tails { AreTails diagrams.old entries.now tails.now }
     requires all { length tails.now ≡ length entries.now + 1 }
     ensures kind { IfOk result (λ kind. (e : Entry) → slice_get entries.now position ≡ Some e → IsKind entries.now position e kind) }
     ensures kept { Keeps diagrams.old diagrams.new }
 {
-    if is_dead(diagrams, &entries[position], decided) {
+    if is_dead(diagrams, own) {
         return Ok(Some(FindingKind::Dead));
     }
     let same = passes_same(diagrams, entries, position, head, tails)?;
@@ -45,12 +43,13 @@ pub(crate) fn kind_of(
     Ok(None)
 }
 
-// Whether no header is decided under the entry's sequence number.
-fn is_dead(diagrams: &Diagrams, entry: &Entry, decided: &IndexMap<u32, u32>) -> bool
-    requires { AreNumbers diagrams.now (get nat_eq decided.now) }
-    ensures { (entries : List Entry) → AreDecided diagrams.now entries (get nat_eq decided.now) → IsTrue result ↔ IsDead entries entry.now }
+// Whether no header is in the set of those that are decided under an entry's sequence number.
+fn is_dead(diagrams: &Diagrams, own: u32) -> bool
+    requires { own < count_of diagrams.now }
+    ensures { (entries : List Entry) (position : ℕ) (e : Entry) → slice_get entries position ≡ Some e
+        → IsSet diagrams.now (decided_in entries 0 position) own → IsTrue result ↔ IsDead entries e }
 {
-    diagrams.is_nothing(decided_by(diagrams, decided, entry.sequence))
+    diagrams.is_nothing(own)
 }
 
 // Whether the list without the entry passes the same headers. What entries before it decide is the same, so what counts

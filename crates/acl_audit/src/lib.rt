@@ -11,6 +11,7 @@ mod list;
 mod sets;
 mod tails;
 mod taken;
+mod unions;
 
 pub use finding::{Finding, FindingKind, Taken};
 pub use list::audit;

@@ -1,23 +1,21 @@
 //! A whole list.
 
-ghost use Rattle.std.specs.Prelude.{◌≡◌, ◌<◌, ◌+◌, Some, IfOk, length, nat_eq, slice_get, take};
-ghost use Rattle.indexmap.specs.IndexMap.{get};
+ghost use Rattle.std.specs.Prelude.{◌≡◌, ◌<◌, ◌+◌, Some, IfOk, length, slice_get, take};
 ghost use Rattle.hdr_bits.specs.HeaderBits.{header_of};
 ghost use Rattle.net_types.specs.declared.config.Entry.{Entry};
 ghost use Rattle.net_types.specs.AccessLists.{matches};
 ghost use Rattle.cube_diagram.specs.Functions.{Keeps};
 ghost use Rattle.acl_audit.specs.Findings.{AreFindings, Finds};
-ghost use Rattle.acl_audit.specs.Sets.{IsSet, AreTails, AreDecided, any_matches};
+ghost use Rattle.acl_audit.specs.Sets.{IsSet, AreMatched, AreTails, AreUnions, any_matches};
 
-use crate::decided::decided_sets;
 use crate::finding::Finding;
 use crate::gather::push_if;
 use crate::kinds::kind_of;
-use crate::sets::{add_set, match_set};
+use crate::sets::{add_set, match_sets};
 use crate::tails::tail_sets;
 use crate::taken::taken_by_earlier;
+use crate::unions::Unions;
 use cube_diagram::Diagrams;
-use indexmap::IndexMap;
 use net_types::{AccessList, Entry, List};
 use no_memory::NoMemory;
 use std::alloc::Global;
@@ -25,8 +23,10 @@ use std::alloc::Global;
 /// The dead and the redundant entries of the list, in its order, which is that of rising sequence numbers. It answers
 /// `NoMemory` only where there was none.
 ///
-/// All sets of headers are diagrams in one table: what the list says behind an entry, and what it decides before one,
-/// are made once for all entries. The rows of what entries take can be very many.
+/// All sets of headers are diagrams in one table, made once for all entries: what each matches and decides, what the
+/// list says from it on, and the unions of what blocks of neighbours decide. Of the entries before a finding only those
+/// that take some of its headers cost time; blocks of which none does are passed over. The rows of what entries take can
+/// be very many.
 pub fn audit(alloc: Global, list: &AccessList) -> Result<Vec<Finding>, NoMemory>
     ensures { IfOk result (λ findings. AreFindings list.now.entries (length list.now.entries) findings.items) }
 {
@@ -41,31 +41,34 @@ fn findings_of(
 ) -> Result<Vec<Finding>, NoMemory>
     ensures { IfOk result (λ findings. AreFindings entries.now (length entries.now) findings.items) }
 {
-    let decided = decided_sets(alloc, diagrams, entries)?;
-    let tails = tail_sets(alloc, diagrams, entries)?;
-    judge_all(alloc, diagrams, entries, &decided, &tails)
+    let matched = match_sets(alloc, diagrams, entries)?;
+    let tails = tail_sets(alloc, diagrams, entries, &matched)?;
+    let unions = Unions::over(alloc, diagrams, entries, &matched)?;
+    judge_all(alloc, diagrams, entries, &matched, &tails, &unions)
 }
 
-// Judges one entry after the other.
+// Judges one entry after the other. `matched` has the sets of the headers that they match.
 fn judge_all(
     alloc: Global,
     diagrams: &mut Diagrams,
     entries: &[Entry],
-    decided: &IndexMap<u32, u32>,
+    matched: &[u32],
     tails: &[u32],
+    unions: &Unions,
 ) -> Result<Vec<Finding>, NoMemory>
-    requires decided { AreDecided diagrams.old entries.now (get nat_eq decided.now) }
+    requires matched { AreMatched diagrams.old entries.now matched.now }
     requires tails { AreTails diagrams.old entries.now tails.now }
     requires all { length tails.now ≡ length entries.now + 1 }
+    requires unions { AreUnions diagrams.old entries.now unions.now }
     ensures { IfOk result (λ findings. AreFindings entries.now (length entries.now) findings.items) }
 {
     let mut findings = Vec::new(alloc);
     let mut head = diagrams.nothing();
     for i in 0..entries.len() {
-        let matched = match_set(alloc, diagrams, &entries[i])?;
-        let finding = judge(alloc, diagrams, entries, i, matched, head, decided, tails)?;
+        let set = matched[i];
+        let finding = judge(alloc, diagrams, entries, i, set, head, tails, unions)?;
         push_if(&mut findings, finding)?;
-        head = add_set(diagrams, head, matched)?;
+        head = add_set(diagrams, head, set)?;
     }
     Ok(findings)
 }
@@ -78,22 +81,23 @@ fn judge(
     position: usize,
     matched: u32,
     head: u32,
-    decided: &IndexMap<u32, u32>,
     tails: &[u32],
+    unions: &Unions,
 ) -> Result<Option<Finding>, NoMemory>
     requires position { position < length entries.now }
     requires matched { (e : Entry) → slice_get entries.now position ≡ Some e → IsSet diagrams.old (λ h. matches e (header_of h)) matched }
     requires head { IsSet diagrams.old (any_matches (take position entries.now)) head }
-    requires decided { AreDecided diagrams.old entries.now (get nat_eq decided.now) }
     requires tails { AreTails diagrams.old entries.now tails.now }
     requires all { length tails.now ≡ length entries.now + 1 }
+    requires unions { AreUnions diagrams.old entries.now unions.now }
     ensures finding { IfOk result (λ finding. (e : Entry) → slice_get entries.now position ≡ Some e → Finds entries.now position e finding) }
     ensures kept { Keeps diagrams.old diagrams.new }
 {
-    let Some(kind) = kind_of(diagrams, entries, position, head, decided, tails)? else {
+    let own = unions.set(0, position);
+    let Some(kind) = kind_of(diagrams, entries, position, own, head, tails)? else {
         return Ok(None);
     };
-    let taken = taken_by_earlier(alloc, diagrams, entries, position, matched, decided)?;
+    let taken = taken_by_earlier(alloc, diagrams, entries, unions, position, matched)?;
     Ok(Some(Finding {
         sequence: entries[position].sequence,
         kind,

@@ -4,7 +4,7 @@ ghost use Rattle.std.specs.Prelude.{◌<◌, ◌||◌, ℕ, Bool, IfOk};
 ghost use Rattle.hdr_bits.specs.HeaderBits.{header_of};
 ghost use Rattle.cube_diagram.specs.Functions.{Keeps, count_of};
 ghost use Rattle.net_types.specs.AccessLists.{matches};
-ghost use Rattle.acl_audit.specs.Sets.{IsSet};
+ghost use Rattle.acl_audit.specs.Sets.{IsSet, AreMatched};
 
 use acl_match::entry_cubes;
 use cube_diagram::Diagrams;
@@ -24,6 +24,23 @@ pub(crate) fn match_set(
     let cubes = entry_cubes(alloc, entry)?;
     let set = diagrams.add_entry(&cubes, 1)?;
     Ok(set)
+}
+
+/// The headers that each of the entries matches.
+pub(crate) fn match_sets(
+    alloc: Global,
+    diagrams: &mut Diagrams,
+    entries: &[Entry],
+) -> Result<Vec<u32>, NoMemory>
+    ensures sets { IfOk result (λ sets. AreMatched diagrams.new entries.now sets.items) }
+    ensures kept { Keeps diagrams.old diagrams.new }
+{
+    let mut sets = Vec::with_capacity(alloc, entries.len())?;
+    for e in entries {
+        let set = match_set(alloc, diagrams, e)?;
+        sets.push(set)?;
+    }
+    Ok(sets)
 }
 
 /// The headers of either set.

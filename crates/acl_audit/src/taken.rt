@@ -1,72 +1,121 @@
 //! What earlier entries take of the headers of another.
 
-ghost use Rattle.std.specs.Prelude.{◌≡◌, ◌<◌, Some, List, nat_eq, slice_get, IfOk, length};
-ghost use Rattle.indexmap.specs.IndexMap.{get};
+ghost use Rattle.std.specs.Prelude.{◌≡◌, ◌<◌, ◌≤◌, ◌+◌, [], get_or, IfOk, OnOk, length};
 ghost use Rattle.hdr_bits.specs.HeaderBits.{header_of};
 ghost use Rattle.hdr_bits.specs.Rows.{AreRows};
 ghost use Rattle.net_types.specs.AccessLists.{matches};
 ghost use Rattle.net_types.specs.declared.config.Entry.{Entry};
 ghost use Rattle.cube_diagram.specs.Functions.{Keeps, count_of, value_at};
 ghost use Rattle.cube_diagram.specs.Paths.{cubes_of};
-ghost use Rattle.acl_audit.specs.Findings.{AreTaken, Takes};
-ghost use Rattle.acl_audit.specs.Sets.{IsSet, AreDecided, AreNumbers};
+ghost use Rattle.acl_audit.specs.Findings.{AreTaken};
+ghost use Rattle.acl_audit.specs.Sets.{IsSet, AreUnions, start_of};
 
-use crate::decided::decided_by;
 use crate::finding::Taken;
-use crate::gather::push_if;
+use crate::unions::Unions;
 use cube_diagram::Diagrams;
 use hdr_bits::Cube;
-use indexmap::IndexMap;
 use net_types::{Entry, List};
 use no_memory::NoMemory;
 use std::alloc::Global;
 
 /// What the entries before a position take of the headers of the entry there, which are in the set `matched`.
+///
+/// Blocks of entries of which none takes anything are passed over at once.
 pub(crate) fn taken_by_earlier(
     alloc: Global,
     diagrams: &mut Diagrams,
     entries: &[Entry],
+    unions: &Unions,
     position: usize,
     matched: u32,
-    decided: &IndexMap<u32, u32>,
 ) -> Result<Vec<Taken>, NoMemory>
     requires position { position < length entries.now }
-    requires matched { (e : Entry) → slice_get entries.now position ≡ Some e → IsSet diagrams.old (λ h. matches e (header_of h)) matched }
-    requires decided { AreDecided diagrams.old entries.now (get nat_eq decided.now) }
-    ensures taken { IfOk result (λ taken. (e : Entry) → slice_get entries.now position ≡ Some e → AreTaken entries.now position e taken.items) }
+    requires unions { AreUnions diagrams.old entries.now unions.now }
+    requires matched { matched < count_of diagrams.old }
+    ensures taken { IfOk result (λ taken. (e : Entry) → IsSet diagrams.old (λ h. matches e (header_of h)) matched → AreTaken entries.now position e taken.items) }
     ensures kept { Keeps diagrams.old diagrams.new }
 {
-    let mut taken = Vec::new(alloc);
-    for k in 0..position {
-        let one = taken_by(alloc, diagrams, &entries[k], matched, decided)?;
-        push_if(&mut taken, one)?;
+    taken_by_blocks(alloc, diagrams, entries, unions, 0, position, matched)
+}
+
+// What the first blocks of a level take of the headers of a set: two of them are one of the next level.
+fn taken_by_blocks(
+    alloc: Global,
+    diagrams: &mut Diagrams,
+    entries: &[Entry],
+    unions: &Unions,
+    level: usize,
+    count: usize,
+    matched: u32,
+) -> Result<Vec<Taken>, NoMemory>
+    requires few { level + count ≤ length entries.now }
+    requires there { count ≤ length (get_or unions.now level []) }
+    requires unions { AreUnions diagrams.old entries.now unions.now }
+    requires matched { matched < count_of diagrams.old }
+    ensures taken { IfOk result (λ taken. (e : Entry) → IsSet diagrams.old (λ h. matches e (header_of h)) matched → AreTaken entries.now (start_of level count) e taken.items) }
+    ensures kept { Keeps diagrams.old diagrams.new }
+{
+    if count == 0 {
+        return Ok(Vec::new(alloc));
     }
+    let above = level + 1;
+    let half = count / 2;
+    let mut taken = taken_by_blocks(alloc, diagrams, entries, unions, above, half, matched)?;
+    let rest = count % 2;
+    if rest == 0 {
+        return Ok(taken);
+    }
+    add_taken_by(
+        alloc,
+        diagrams,
+        entries,
+        unions,
+        level,
+        count - 1,
+        matched,
+        &mut taken,
+    )?;
     Ok(taken)
 }
 
-// What an earlier entry takes of the headers of a set, if it takes any.
-fn taken_by(
+// Adds what the entries of a block take of the headers of a set.
+fn add_taken_by(
     alloc: Global,
     diagrams: &mut Diagrams,
-    earlier: &Entry,
+    entries: &[Entry],
+    unions: &Unions,
+    level: usize,
+    block: usize,
     matched: u32,
-    decided: &IndexMap<u32, u32>,
-) -> Result<Option<Taken>, NoMemory>
+    taken: &mut Vec<Taken>,
+) -> Result<(), NoMemory>
+    requires there { block < length (get_or unions.now level []) }
+    requires unions { AreUnions diagrams.old entries.now unions.now }
     requires matched { matched < count_of diagrams.old }
-    requires decided { AreNumbers diagrams.old (get nat_eq decided.now) }
-    ensures taken { IfOk result (λ taken. (entries : List Entry) (e : Entry) → AreDecided diagrams.old entries (get nat_eq decided.now)
-        → IsSet diagrams.old (λ h. matches e (header_of h)) matched → Takes entries earlier.now e taken) }
+    ensures taken { OnOk result ((e : Entry) → IsSet diagrams.old (λ h. matches e (header_of h)) matched
+        → AreTaken entries.now (start_of level block) e taken.old.items → AreTaken entries.now (start_of level (block + 1)) e taken.new.items) }
     ensures kept { Keeps diagrams.old diagrams.new }
 {
-    let set = diagrams.within(matched, decided_by(diagrams, decided, earlier.sequence))?;
-    if diagrams.is_nothing(set) {
-        return Ok(None);
+    let common = diagrams.within(matched, unions.set(level, block))?;
+    if diagrams.is_nothing(common) {
+        return Ok(());
     }
-    let rows = rows_of(alloc, diagrams, set)?;
-    Ok(Some(Taken {
-        sequence: earlier.sequence,
-        rows: List::new(rows),
-    }))
+    if level == 0 {
+        let rows = rows_of(alloc, diagrams, common)?;
+        taken.push(Taken {
+            sequence: entries[block].sequence,
+            rows: List::new(rows),
+        })?;
+        return Ok(());
+    }
+    let below = level - 1;
+    let low = 2 * block;
+    let high = low + 1;
+    add_taken_by(alloc, diagrams, entries, unions, below, low, matched, taken)?;
+    add_taken_by(
+        alloc, diagrams, entries, unions, below, high, matched, taken,
+    )?;
+    Ok(())
 }
 
 // The rows of a set.
