@@ -9,6 +9,7 @@
     networks.py ring FOLDER N             N routers in a ring, each with a default route to the next; one of them loses its subnet
     networks.py device FOLDER R E RULES   a device with R routes, a list of E entries and RULES translation rules; a route is changed
     networks.py hops FOLDER R H           a device with R routes by H next hops in turn, one of which gets another one
+    networks.py circle FOLDER R           two routers, each with R routes and a default route to the other; nothing is changed
     networks.py folders FOLDER N          N devices of ten interfaces that have nothing to do with one another; nothing is changed
     networks.py list FOLDER N PERCENT     a device with a list of N generated entries, one of which is changed; of a hundred
                                           entries PERCENT have any source, and as many any destination
@@ -266,6 +267,19 @@ def hops(folder, routes, count):
     write_links(folder, ["ingress R1 Ethernet0", "ingress R1 Ethernet1"])
 
 
+def circle(folder, routes):
+    """What is for nobody goes to and fro until it expires."""
+    own = ["ip route %s 255.255.255.240 Null0" % dotted((20 << 24) + 16 * i) for i in range(routes)]
+    devices = {}
+    for k in (1, 2):
+        lines = ["interface Ethernet0", " ip address 10.0.0.%d 255.255.255.252" % k]
+        lines += ["interface Ethernet1", " ip address 10.1.%d.1 255.255.255.0" % k]
+        devices["R%d" % k] = lines + own + ["ip route 0.0.0.0 0.0.0.0 10.0.0.%d" % (3 - k)]
+    for version in ("old", "new"):
+        write(folder, version, devices)
+    write_links(folder, ["p2p R1 Ethernet0 R2 Ethernet0", "ingress R1 Ethernet1"])
+
+
 def folders(folder, n):
     devices = {}
     for k in range(n):
@@ -385,7 +399,7 @@ def one_list(folder, n, percent):
 def main():
     kind, folder, *numbers = sys.argv[1:]
     shapes = {"list": one_list}
-    shapes.update((shape.__name__, shape) for shape in (chain, fabric, listed, lists, leaves, layers, ring, device, hops, folders, crossed))
+    shapes.update((shape.__name__, shape) for shape in (chain, fabric, listed, lists, leaves, layers, ring, device, hops, circle, folders, crossed))
     shapes[kind](folder, *(int(word) if word.isdigit() else word for word in numbers))
 
 

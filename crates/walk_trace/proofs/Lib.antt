@@ -1,5 +1,7 @@
 pub mod KeyLemmas
 pub mod StateLemmas
+pub mod KeptLemmas
+pub mod SeatLemmas
 pub mod Adding
 pub mod Breadth
 pub mod SetLemmas

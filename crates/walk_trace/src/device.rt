@@ -1,11 +1,12 @@
 //! What a device does with a packet: its moves, one for each choice in order.
 
-ghost use Rattle.std.specs.Prelude.{◌≡◌, [], ◌∷◌, IfOk, map, position, option_map};
+ghost use Rattle.std.specs.Prelude.{◌≡◌, [], ◌∷◌, IfOk, IfSome, map, position, option_map};
 ghost use Rattle.net_types.specs.Moves.{is_dropped, owns, owner, lets_in};
 ghost use Rattle.net_types.specs.Moves.{leave_with, leave, leave_if_any, move_by};
 ghost use Rattle.net_view.specs.Borrowed.{seat_of};
 ghost use Rattle.walk_trace.specs.Traced.{said};
-ghost use Rattle.walk_trace.specs.Numbered.{choices, ordered_moves_by, ordered_moves_in, ordered_moves_at, ordered_moves};
+ghost use Rattle.walk_trace.specs.Kept.{IsSeated};
+ghost use Rattle.walk_trace.specs.Numbered.{ordered_moves_by, ordered_moves_in, ordered_moves_at, ordered_moves};
 
 use crate::site::Site;
 use crate::translation::{coming_in, going_out};
@@ -44,21 +45,53 @@ fn owns(address: u32, interface: &Interface) -> bool
     has_live_address(interface, address)
 }
 
-/// The choices of the lookup of an address, in order.
-pub(crate) fn choices(alloc: Global, config: &Config, address: u32) -> Result<Vec<Hop>, NoMemory>
-    ensures { IfOk result (λ answer. answer.items ≡ choices config.now address) }
-{
-    let rib = rib_build::build(alloc, config)?;
-    let hops = fib_lookup::choices(alloc, &rib, address)?;
-    Ok(hops)
-}
-
-/// All that may become of a packet in a state, a move for each choice in order.
+/// All that may become of a packet in a state, a move for each choice in order. They are found once for a state whose moves
+/// were kept.
 pub(crate) fn ordered_moves(
     alloc: Global,
     site: &Site,
     state: &State,
 ) -> Result<Vec<Move>, NoMemory>
+    ensures { IfOk result (λ answer. answer.items ≡ ordered_moves site.now state.now) }
+{
+    let Some(kept) = site.kept_moves(state) else {
+        return moves_found(alloc, site, state);
+    };
+    let mut answer = Vec::new(alloc);
+    answer.extend_from_slice(kept)?;
+    Ok(answer)
+}
+
+/// Keeps the moves of a state, and the choices that its device gives the packet, so that they are found once.
+pub(crate) fn keep_moves(alloc: Global, site: &mut Site, state: &State) -> Result<(), NoMemory>
+    ensures { site.new ≡ site.old }
+{
+    if site.kept_moves(state).is_some() {
+        return Ok(());
+    }
+    keep_choices(alloc, site, state)?;
+    let moves = moves_found(alloc, site, state)?;
+    site.keep_moves(state, moves)
+}
+
+// Keeps the choices for a packet in a state, where the device looks its destination up.
+fn keep_choices(alloc: Global, site: &mut Site, state: &State) -> Result<(), NoMemory>
+    ensures { site.new ≡ site.old }
+{
+    let Some(seat) = site.seat(state.place) else {
+        return Ok(());
+    };
+    if !lets_in(seat, &state.header) {
+        return Ok(());
+    }
+    let h = coming_in(seat, &state.header);
+    if is_dropped(&seat.device.config, h.dst) || owner(seat, h.dst).is_some() {
+        return Ok(());
+    }
+    site.keep_choices(alloc, seat.device, h.dst)
+}
+
+fn moves_found(alloc: Global, site: &Site, state: &State) -> Result<Vec<Move>, NoMemory>
     ensures { IfOk result (λ answer. answer.items ≡ ordered_moves site.now state.now) }
 {
     ordered_moves_at(alloc, site, site.seat(state.place), &state.header)
@@ -70,6 +103,7 @@ fn ordered_moves_at(
     seat: Option<SeatRef>,
     h: &Header,
 ) -> Result<Vec<Move>, NoMemory>
+    requires { IfSome seat (λ s. IsSeated site.now (seat_of s)) }
     ensures { IfOk result (λ answer. answer.items ≡ ordered_moves_at site.now (option_map seat_of seat.entry) h.now) }
 {
     let Some(seat) = seat else {
@@ -93,6 +127,7 @@ fn ordered_moves_in(
     seat: SeatRef,
     h: &Header,
 ) -> Result<Vec<Move>, NoMemory>
+    requires { IsSeated site.now (seat_of seat) }
     ensures { IfOk result (λ answer. answer.items ≡ ordered_moves_in site.now (seat_of seat.entry) h.now) }
 {
     if is_dropped(&seat.device.config, h.dst) {
@@ -108,12 +143,13 @@ fn ordered_moves_by(
     h: &Header,
     own: Option<SeatRef>,
 ) -> Result<Vec<Move>, NoMemory>
+    requires { IsSeated site.now (seat_of seat) }
     ensures { IfOk result (λ answer. answer.items ≡ ordered_moves_by site.now (seat_of seat.entry) h.now (option_map seat_of own.entry)) }
 {
     if let Some(own) = own {
         return just(alloc, Move::Local { place: own.place });
     }
-    let hops = choices(alloc, &seat.device.config, h.dst)?;
+    let hops = site.choices(alloc, seat.device, h.dst)?;
     moves_by(alloc, site, seat, h, &hops)
 }
 

@@ -4,8 +4,10 @@
 
 mod device;
 pub mod laws;
+mod moves;
 mod numbers;
 mod outcomes;
+mod routes;
 mod site;
 mod states;
 mod text;
@@ -13,6 +15,7 @@ mod told;
 mod traced;
 mod translation;
 mod types;
+mod walked;
 
 pub use text::trace_bytes;
 pub use traced::trace;

@@ -47,7 +47,7 @@ pub(crate) fn add_next(
     Ok(())
 }
 
-fn add_next_of(
+pub(crate) fn add_next_of(
     alloc: Global,
     site: &Site,
     state: &State,

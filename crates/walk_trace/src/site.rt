@@ -1,17 +1,21 @@
 //! A network as a trace looks at it.
 
+use crate::moves::Moves;
+use crate::routes::Routes;
 use hdr_bits::Header;
 use link_sends::{Sent, Wiring};
-use net_types::{Move, NoMemory, Place};
+use net_types::{Hop, Move, NetDevice, NoMemory, Place, State};
 use net_view::{SeatRef, WorldRef, seat_at};
 use std::alloc::Global;
 use std::marker::Model;
 
-/// A network with its links, which are indexed.
+/// A network with its links, which are indexed, and what is kept of its devices.
 #[derive(Drop)]
 pub(crate) struct Site<'a> {
     world: WorldRef<'a>,
     wiring: Wiring<'a>,
+    routes: Routes<'a>,
+    moves: Moves<'a>,
 }
 
 impl<'a> Model for Site<'a> {
@@ -23,25 +27,33 @@ impl<'a> Model for Site<'a> {
 
     ghost view = { λ s. world_of s.world };
 
-    ghost invariant = { λ s. s.wiring ≡ world_of s.world };
+    ghost invariant = { λ s. (s.wiring ≡ world_of s.world) × (s.routes ≡ world_of s.world) × (s.moves ≡ world_of s.world) };
 }
 
 impl<'a> Site<'a> {
-    ghost use Rattle.std.specs.Prelude.{◌≡◌, IfOk, option_map};
+    ghost use Rattle.std.specs.Prelude.{◌≡◌, IfOk, IfSome, option_map};
     ghost use Rattle.net_types.specs.Moves.{send};
     ghost use Rattle.net_types.specs.World.{seat_at, segment_of};
     ghost use Rattle.net_view.specs.Borrowed.{world_of, seat_of};
+    ghost use Rattle.walk_trace.specs.Kept.{IsFirst, IsSeated};
+    ghost use Rattle.walk_trace.specs.Numbered.{choices, ordered_moves};
 
     pub(crate) fn of(alloc: Global, world: WorldRef<'a>) -> Result<Site<'a>, NoMemory>
         ensures { IfOk result (λ site. site ≡ world_of world.entry) }
     {
         let wiring = Wiring::of(alloc, world)?;
-        Ok(Site { world, wiring })
+        Ok(Site {
+            world,
+            wiring,
+            routes: Routes::of(alloc, world),
+            moves: Moves::of(alloc, world),
+        })
     }
 
     /// What stands at a place.
     pub(crate) fn seat(&self, place: Place) -> Option<SeatRef<'a>>
-        ensures { option_map seat_of result ≡ seat_at self.now place }
+        ensures seat { option_map seat_of result ≡ seat_at self.now place }
+        ensures first { IfSome result (λ seat. IsSeated self.now (seat_of seat)) }
     {
         seat_at(self.world, place)
     }
@@ -51,6 +63,47 @@ impl<'a> Site<'a> {
         ensures { result ≡ send self.now interface address h.now (segment_of self.now interface) }
     {
         sent_move(interface, h, self.wiring.sent_to(interface, address))
+    }
+
+    /// The choices of a device's lookup of an address, in order.
+    pub(crate) fn choices(
+        &self,
+        alloc: Global,
+        device: &NetDevice,
+        address: u32,
+    ) -> Result<Vec<Hop>, NoMemory>
+        requires { IsFirst self.now device.now }
+        ensures { IfOk result (λ answer. answer.items ≡ choices device.now.config address) }
+    {
+        self.routes.choices(alloc, device, address)
+    }
+
+    /// Keeps the choices of a device's lookup of an address.
+    pub(crate) fn keep_choices(
+        &mut self,
+        alloc: Global,
+        device: &NetDevice,
+        address: u32,
+    ) -> Result<(), NoMemory>
+        requires { IsFirst self.old device.now }
+        ensures { self.new ≡ self.old }
+    {
+        self.routes.keep(alloc, device, address)
+    }
+
+    /// The moves of a state, if they are kept.
+    pub(crate) fn kept_moves(&self, state: &State) -> Option<&[Move]>
+        ensures { IfSome result (λ moves. moves.now ≡ ordered_moves self.now state.now) }
+    {
+        self.moves.get(state)
+    }
+
+    /// Keeps the moves of a state.
+    pub(crate) fn keep_moves(&mut self, state: &State, moves: Vec<Move>) -> Result<(), NoMemory>
+        requires { moves.items ≡ ordered_moves self.old state.now }
+        ensures { self.new ≡ self.old }
+    {
+        self.moves.keep(state, moves)
     }
 }
 

@@ -112,7 +112,7 @@ fn states_of(alloc: Global, keys: &[StateKey]) -> Result<Vec<State>, NoMemory>
     Ok(states)
 }
 
-fn key_of(state: &State) -> StateKey
+pub(crate) fn key_of(state: &State) -> StateKey
     ensures { result ≡ key_of state.now }
 {
     StateKey {

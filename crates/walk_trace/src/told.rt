@@ -1,13 +1,14 @@
 //! What is told of a state: what its device does with the packet, and by which list, rule and choice.
 
-ghost use Rattle.std.specs.Prelude.{◌≡◌, IfOk, map, option_map};
+ghost use Rattle.std.specs.Prelude.{◌≡◌, IfOk, IfSome, map, option_map};
 ghost use Rattle.net_types.specs.Walks.{state_at};
 ghost use Rattle.net_view.specs.Borrowed.{seat_of};
+ghost use Rattle.walk_trace.specs.Kept.{IsSeated};
 ghost use Rattle.walk_trace.specs.Numbered.{number_of};
 ghost use Rattle.walk_trace.specs.Traced.{tried, fate_by, fate_after, choice_with, choice_after, choice_of, choice_if_any, choice_by};
 ghost use Rattle.walk_trace.specs.Traced.{end_by, end_in, closed, turned_away, taken_in, judged, open_state, state_if_any, state_told};
 
-use crate::device::{choices, owner, said};
+use crate::device::{owner, said};
 use crate::site::Site;
 use crate::states::States;
 use crate::translation::{coming_in, going_out, written_coming_in, written_going_out};
@@ -40,6 +41,7 @@ fn state_if_any(
     state: &State,
     seat: Option<SeatRef>,
 ) -> Result<TraceState, NoMemory>
+    requires { IfSome seat (λ s. IsSeated frame.site.now (seat_of s)) }
     ensures { IfOk result (λ told. told ≡ state_if_any frame.entry.site.now frame.entry.numbers.now frame.entry.first.now state.now (option_map seat_of seat.entry)) }
 {
     let Some(seat) = seat else {
@@ -72,6 +74,7 @@ fn open_state(
     state: &State,
     seat: SeatRef,
 ) -> Result<TraceState, NoMemory>
+    requires { IsSeated frame.site.now (seat_of seat) }
     ensures { IfOk result (λ told. told ≡ open_state frame.entry.site.now frame.entry.numbers.now frame.entry.first.now state.now (seat_of seat.entry)) }
 {
     let verdict = said(&seat.device.config, &seat.interface.input, &state.header);
@@ -85,6 +88,7 @@ fn judged(
     seat: SeatRef,
     verdict: Verdict,
 ) -> Result<TraceState, NoMemory>
+    requires { IsSeated frame.site.now (seat_of seat) }
     ensures { IfOk result (λ told. told ≡ judged frame.entry.site.now frame.entry.numbers.now frame.entry.first.now state.now (seat_of seat.entry) verdict) }
 {
     if !passes(verdict) {
@@ -129,6 +133,7 @@ fn taken_in(
     verdict: Verdict,
     written: Stamp,
 ) -> Result<TraceState, NoMemory>
+    requires { IsSeated frame.site.now (seat_of seat) }
     ensures { IfOk result (λ told. told ≡ taken_in frame.entry.site.now frame.entry.numbers.now frame.entry.first.now state.now (seat_of seat.entry) verdict written) }
 {
     let end = end_in(alloc, frame, seat, &coming_in(seat, &state.header))?;
@@ -167,6 +172,7 @@ fn copy_of(alloc: Global, name: &Option<Text>) -> Result<Option<Text>, NoMemory>
 }
 
 fn end_in(alloc: Global, frame: Frame, seat: SeatRef, h: &Header) -> Result<TraceEnd, NoMemory>
+    requires { IsSeated frame.site.now (seat_of seat) }
     ensures { IfOk result (λ end. end ≡ end_in frame.entry.site.now frame.entry.numbers.now frame.entry.first.now (seat_of seat.entry) h.now) }
 {
     if is_dropped(&seat.device.config, h.dst) {
@@ -182,12 +188,13 @@ fn end_by(
     h: &Header,
     own: Option<SeatRef>,
 ) -> Result<TraceEnd, NoMemory>
+    requires { IsSeated frame.site.now (seat_of seat) }
     ensures { IfOk result (λ end. end ≡ end_by frame.entry.site.now frame.entry.numbers.now frame.entry.first.now (seat_of seat.entry) h.now (option_map seat_of own.entry)) }
 {
     if let Some(own) = own {
         return Ok(TraceEnd::Local { place: own.place });
     }
-    let hops = choices(alloc, &seat.device.config, h.dst)?;
+    let hops = frame.site.choices(alloc, seat.device, h.dst)?;
     let choices = choices_by(alloc, frame, seat, h, &hops)?;
     Ok(TraceEnd::Choices {
         choices: List::new(choices),

@@ -9,6 +9,7 @@ use crate::site::Site;
 use crate::states::States;
 use crate::told::{Frame, state_told};
 use crate::types::{Trace, TraceState};
+use crate::walked::keep_walked;
 use hdr_bits::Header;
 use net_types::{Links, List, Network, NoMemory, Place, State};
 use net_view::WorldRef;
@@ -32,12 +33,27 @@ pub fn trace(
     requires ttl { 1 ≤ ttl }
     ensures traced { IfOk result (λ trace. trace ≡ traced (record { network = network.now; links = links.now }) ttl place h.now) }
 {
-    let site = Site::of(alloc, WorldRef { network, links })?;
-    trace_on(alloc, &site, place, h, ttl)
+    let mut site = Site::of(alloc, WorldRef { network, links })?;
+    trace_on(alloc, &mut site, place, h, ttl)
+}
+
+// What the devices are asked is kept before it is told.
+fn trace_on(
+    alloc: Global,
+    site: &mut Site,
+    place: Place,
+    h: &Header,
+    ttl: u8,
+) -> Result<Trace, NoMemory>
+    requires { 1 ≤ ttl }
+    ensures { IfOk result (λ trace. trace ≡ traced site.old ttl place h.now) }
+{
+    keep_walked(alloc, site, ttl, &State { place, header: *h })?;
+    trace_told(alloc, site, place, h, ttl)
 }
 
 #[tactic(auto, unfolding(crate::specs::Traced::traced))]
-fn trace_on(
+fn trace_told(
     alloc: Global,
     site: &Site,
     place: Place,
