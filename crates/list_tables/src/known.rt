@@ -27,7 +27,8 @@ pub(crate) struct KnownLists {
     pub(crate) new_lists: Vec<DeviceLists>,
 }
 
-/// What the workers made, in one table.
+/// What the workers made, in one table. A worker who had no memory made nothing: its lists are made where the networks are
+/// compiled.
 pub(crate) fn known_of(
     alloc: Global,
     both: BothDevices,
@@ -39,7 +40,7 @@ pub(crate) fn known_of(
     let mut known = nothing_known(alloc, both)?;
     for share in made {
         let Some(share) = share else {
-            return Err(NoMemory);
+            continue;
         };
         add_share(alloc, share, &mut known)?;
     }

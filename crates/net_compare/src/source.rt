@@ -51,10 +51,11 @@ impl<'a, R, K: Pairing + Base> Ingresses<'a, R, K> {
 }
 
 impl<'a, R: Wait, K: Pairing + Base> PairSource<K> for Ingresses<'a, R, K> {
+    // The table goes back also where there was no memory for the function, so that another worker finds it.
     fn function(&self, alloc: Global, slot: u32) -> Result<PairFunction, NoMemory> {
         let mut table = self.twins.take(self.rt, self.base)?;
-        let given = self.compared.function(alloc, &mut table, slot)?;
+        let given = self.compared.function(alloc, &mut table, slot);
         self.twins.give_back(self.rt, table);
-        Ok(given)
+        given
     }
 }
