@@ -8,3 +8,5 @@ pub mod SlotLemmas
 pub mod LeafLemmas
 pub mod ReadingLemmas
 pub mod TextLemmas
+pub mod FieldLemmas
+pub mod DeviceLemmas

@@ -6,7 +6,6 @@ use Rattle.net_text.specs.declared.Line.{Line}
 use Rattle.net_text.specs.Lines.{piece}
 use Rattle.net_types.specs.declared.network.Network.{Network}
 use Rattle.ask_query.specs.declared.fields.Field.{Field}
-use Rattle.ask_query.specs.declared.fields.FieldBits.{FieldBits}
 use Rattle.ask_query.specs.declared.refusal.QuestionFail.{QuestionFail}
 use Rattle.ask_query.specs.declared.refusal.QuestionFail.TheVariants as fail
 use Rattle.ask_query.specs.declared.refusal.QuestionRefusal.TheVariants as refusal
@@ -49,7 +48,7 @@ module _ (net : Network) (bytes : List ℕ) where
       ∙ ap (λ (r : Result (Option Said) QuestionFail). behind front (r >>= λ q. questions_in net bytes (drop (i + 1) lines) >>= λ qs. Ok (option_to_list q ++ qs))) read
 
 -- ---- filters
-pub one_field : (n : ℕ) (f : Filter) (w t : Word) (words : List Word) (x : Field) (m : FieldBits) → free_field n f.named w ≡ Ok x → bits_at n x t ≡ Ok m → filter_from n f (w ∷ t ∷ words) ≡ filter_from n (and_field f x m) words
+pub one_field : (n : ℕ) (f : Filter) (w t : Word) (words : List Word) (x : Field) (m : ℕ × ℕ) → free_field n f.named w ≡ Ok x → bits_at n x t ≡ Ok m → filter_from n f (w ∷ t ∷ words) ≡ filter_from n (and_field f x m) words
 unfolding filter_from
 one_field n f w t words x m e b = rw (e, b) refl
 

@@ -5,6 +5,7 @@ pub mod Looping
 pub mod Slots
 pub mod Shared
 pub mod Refusals
+pub mod Devices
 pub mod Fields
 pub mod Reading
 pub mod AnswerText

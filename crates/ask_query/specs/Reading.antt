@@ -1,5 +1,5 @@
 -- What the text of a question file says: questions, or the first line that is refused.
-use Rattle.std.specs.Prelude.{ℕ, ◌*◌, ◌^◌, ◌==◌, Bool, false, List, [], ◌∷◌, ◌++◌, map, find, option_to_list, Option, Some, None, option_map, Result, Ok, Err, bit_and, bit_or, codes, if◌then◌else◌}
+use Rattle.std.specs.Prelude.{ℕ, ◌*◌, ◌^◌, ◌==◌, Bool, false, List, [], ◌∷◌, ◌++◌, map, find, option_to_list, Option, Some, None, option_map, Result, Ok, Err, bit_or, codes, if◌then◌else◌}
 use Rattle.std.specs.List.{list_any}
 use Rattle.std.specs.Str.{bytes_eq}
 use Rattle.hdr_bits.specs.declared.cube.Cube.{Cube}
@@ -8,22 +8,21 @@ use Rattle.net_text.specs.Lines.{piece, lines_of}
 use Rattle.net_types.specs.declared.network.NetDevice.{NetDevice}
 use Rattle.net_types.specs.declared.network.Network.{Network}
 use Rattle.net_types.specs.declared.network.Place.{Place}
-use Rattle.net_types.specs.Routes.{same_text}
 use Rattle.net_types.specs.World.{seat_named}
 use Rattle.ask_query.specs.declared.fields.Field.{Field}
-use Rattle.ask_query.specs.declared.fields.FieldBits.{FieldBits}
 use Rattle.net_types.specs.declared.question.Question.{Question}
 use Rattle.net_types.specs.declared.question.QuestionKind.{QuestionKind}
 use Rattle.net_types.specs.declared.question.QuestionKind.TheVariants as kind
 use Rattle.ask_query.specs.declared.refusal.QuestionFail.{QuestionFail}
 use Rattle.ask_query.specs.declared.refusal.QuestionRefusal.TheVariants as refusal
-use Rattle.ask_query.specs.Fields.{field_named, field_of}
+use Rattle.ask_query.specs.Devices.{is_called}
+use Rattle.ask_query.specs.Fields.{field_named, field_of, same_field, shift_of}
 use Rattle.ask_query.specs.Refusals.{Word, refused, ◌>>=◌}
 
 -- ---- places
 -- the first device of this name, and the place of its first interface of that name
 abbrev pub device_called : Network → Word → Option NetDevice
-device_called net w = find (λ d. same_text d.config.hostname w) net.devices
+device_called net w = find (is_called w) net.devices
 
 abbrev pub place_called : NetDevice → Word → Option Place
 place_called d w = option_map (λ s. s.place) (seat_named d w)
@@ -63,32 +62,33 @@ second_at net kind.Isolate n words = second_place net n words
 second_at net kind.NoLoop n words = Ok (None, words)
 
 -- ---- filters
--- the fields that are named so far, by the bits behind them, and the fixed bits of a header with the digits at those
+-- the fields that are named so far, and the fixed bits of a header with the digits at those
 pub record Filter : Type 0 where
-  pub named : List ℕ
+  pub named : List Field
   pub fixed : ℕ
   pub bits : ℕ
 
 abbrev pub no_field : Filter
 no_field = record { named = []; fixed = 0; bits = 0 }
 
-abbrev pub and_field : Filter → Field → FieldBits → Filter
-and_field f x m = record { named = f.named ++ x.shift ∷ []; fixed = bit_or f.fixed (m.fixed * 2 ^ x.shift); bits = bit_or f.bits (bit_and m.bits m.fixed * 2 ^ x.shift) }
+-- the filter, with these bits of the field fixed too
+abbrev pub and_field : Filter → Field → ℕ × ℕ → Filter
+and_field f x m = record { named = f.named ++ x ∷ []; fixed = bit_or f.fixed (m.0 * 2 ^ shift_of x); bits = bit_or f.bits (m.1 * 2 ^ shift_of x) }
 
-abbrev pub if_free : ℕ → List ℕ → Word → Option Field → Result Field QuestionFail
+abbrev pub if_free : ℕ → List Field → Word → Option Field → Result Field QuestionFail
 if_free n named w None = Err (refused refusal.BadWord n w)
-if_free n named w (Some x) = if list_any (λ s. s == x.shift) named then Err (refused refusal.BadWord n w) else Ok x
+if_free n named w (Some x) = if list_any (λ y. same_field y x) named then Err (refused refusal.BadWord n w) else Ok x
 
 -- the field of this name, that isn't named yet
-abbrev pub free_field : ℕ → List ℕ → Word → Result Field QuestionFail
+abbrev pub free_field : ℕ → List Field → Word → Result Field QuestionFail
 free_field n named w = if_free n named w (field_named w)
 
-abbrev pub if_bits : ℕ → Word → Option FieldBits → Result FieldBits QuestionFail
+abbrev pub if_bits : ℕ → Word → Option (ℕ × ℕ) → Result (ℕ × ℕ) QuestionFail
 if_bits n w None = Err (refused refusal.BadWord n w)
 if_bits n w (Some m) = Ok m
 
 -- the bits that a text of the field fixes
-abbrev pub bits_at : ℕ → Field → Word → Result FieldBits QuestionFail
+abbrev pub bits_at : ℕ → Field → Word → Result (ℕ × ℕ) QuestionFail
 bits_at n x w = if_bits n w (field_of x w)
 
 -- pairs of a field's name and a text of it

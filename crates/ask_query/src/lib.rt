@@ -8,6 +8,7 @@
 mod answering;
 mod answers;
 mod asked;
+mod devices;
 mod fields;
 mod gathering;
 mod looping;

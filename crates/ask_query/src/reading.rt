@@ -1,20 +1,20 @@
 //! Reading questions.
 
-ghost use Rattle.std.specs.Prelude.{◌≡◌, ◌≤◌, ◌<◌, ◌+◌, ◌*◌, ◌^◌, ◌++◌, ◌∷◌, [], ◌==◌, IfOk, OnOk, MatchOption, length, map, option_map, option_to_list, bit_and, bit_or};
-ghost use Rattle.std.specs.List.{list_any};
-ghost use Rattle.std.specs.Option.{option_copied};
+ghost use Rattle.std.specs.Prelude.{◌≡◌, ◌≤◌, ◌<◌, ◌+◌, ◌*◌, ◌^◌, ◌++◌, ◌∷◌, [], ◌==◌, IfOk, OnOk, MatchOption, length, map, option_map, option_to_list, bit_or};
 ghost use Rattle.std.specs.Str.{bytes_eq};
 ghost use Rattle.net_text.specs.Limits.{text_limit};
 ghost use Rattle.net_text.specs.Lines.{piece};
+ghost use Rattle.report_text.specs.FieldText.{IsField};
+ghost use Rattle.ask_query.specs.Fields.{place_of, shift_of};
 ghost use Rattle.ask_query.specs.Refusals.{Gives};
-ghost use Rattle.ask_query.specs.Reading.{begins_mark, bits_at, device_called, filter_from, free_field, interface_at, kind_of, masks_of, no_field, place_at, place_called, question_at, question_of, questions_in, questions_of, said, second_at, second_place, to_at};
+ghost use Rattle.ask_query.specs.Reading.{begins_mark, bits_at, filter_from, free_field, interface_at, kind_of, masks_of, no_field, place_at, question_at, question_of, questions_in, questions_of, said, second_at, second_place, to_at};
 
-use crate::fields::{Field, FieldBits, field_named, field_of};
+use crate::devices::{DeviceIndex, PlaceIndex};
+use crate::fields::{Field, field_named, field_of, is_among};
 use crate::refusal::{QuestionFail, QuestionRefusal, at_word, missing};
 use hdr_bits::Cube;
 use net_text::{Line, Span, lines, part};
-use net_types::{NetDevice, Network, NoMemory, Place, Question, QuestionKind, Text};
-use net_view::{same_text, seat_named};
+use net_types::{Network, NoMemory, Place, Question, QuestionKind, Text};
 use std::alloc::Global;
 
 /// The questions of a text of at most 16,777,216 bytes, or its refusal. Their places are found in the network by the names of
@@ -32,24 +32,25 @@ pub fn read_questions(
     requires { length bytes.now ≤ text_limit }
     ensures exact { Gives (λ questions. map said questions.items) result (questions_of network.now bytes.now) }
 {
+    let devices = DeviceIndex::of(alloc, network)?;
     let lines = lines(alloc, bytes)?;
-    let questions = read_lines(alloc, network, bytes, &lines)?;
+    let questions = read_lines(alloc, &devices, bytes, &lines)?;
     Ok(questions)
 }
 
 // The questions of the lines.
 fn read_lines(
     alloc: Global,
-    network: &Network,
+    devices: &DeviceIndex,
     bytes: &[u8],
     lines: &[Line],
 ) -> Result<Vec<Question>, QuestionFail>
-    ensures { Gives (λ questions. map said questions.items) result (questions_in network.now bytes.now lines.now) }
+    ensures { Gives (λ questions. map said questions.items) result (questions_in devices.now bytes.now lines.now) }
 {
     let mut questions = Vec::new(alloc);
     for line in lines {
         let words = texts(alloc, bytes, line.words.as_slice())?;
-        let question = read_line(alloc, network, line.number, &words)?;
+        let question = read_line(alloc, devices, line.number, &words)?;
         add(&mut questions, question)?;
     }
     Ok(questions)
@@ -81,11 +82,11 @@ fn texts(alloc: Global, bytes: &[u8], spans: &[Span]) -> Result<Vec<Text>, NoMem
 #[tactic(auto, unfolding(crate::specs::Reading::question_at))]
 fn read_line(
     alloc: Global,
-    network: &Network,
+    devices: &DeviceIndex,
     line: u32,
     words: &[Text],
 ) -> Result<Option<Question>, QuestionFail>
-    ensures { Gives (option_map said) result (question_at network.now line words.now) }
+    ensures { Gives (option_map said) result (question_at devices.now line words.now) }
 {
     let [word, rest @ ..] = words else {
         return Ok(None);
@@ -96,7 +97,7 @@ fn read_line(
     let Some(kind) = kind_of(word) else {
         return Err(at_word(alloc, QuestionRefusal::BadWord, line, word));
     };
-    let question = read_question(alloc, network, kind, line, rest)?;
+    let question = read_question(alloc, devices, kind, line, rest)?;
     Ok(Some(question))
 }
 
@@ -104,15 +105,15 @@ fn read_line(
 #[tactic(auto, unfolding(crate::specs::Reading::question_of))]
 fn read_question(
     alloc: Global,
-    network: &Network,
+    devices: &DeviceIndex,
     kind: QuestionKind,
     line: u32,
     words: &[Text],
 ) -> Result<Question, QuestionFail>
-    ensures { Gives said result (question_of network.now kind line words.now) }
+    ensures { Gives said result (question_of devices.now kind line words.now) }
 {
-    let (from, rest) = read_place(alloc, network, line, words)?;
-    let (to, rest) = read_second(alloc, network, kind, line, rest)?;
+    let (from, rest) = read_place(alloc, devices, line, words)?;
+    let (to, rest) = read_second(alloc, devices, kind, line, rest)?;
     let filter = read_filter(alloc, line, rest)?;
     Ok(Question {
         kind,
@@ -126,16 +127,16 @@ fn read_question(
 #[tactic(auto, unfolding(crate::specs::Reading::second_at))]
 fn read_second<'a>(
     alloc: Global,
-    network: &Network,
+    devices: &DeviceIndex,
     kind: QuestionKind,
     line: u32,
     words: &'a [Text],
 ) -> Result<(Option<Place>, &'a [Text]), QuestionFail>
-    ensures { Gives (λ x. (x.0, x.1.now)) result (second_at network.now kind line words.now) }
+    ensures { Gives (λ x. (x.0, x.1.now)) result (second_at devices.now kind line words.now) }
 {
     match kind {
-        QuestionKind::Reach => read_second_place(alloc, network, line, words),
-        QuestionKind::Isolate => read_second_place(alloc, network, line, words),
+        QuestionKind::Reach => read_second_place(alloc, devices, line, words),
+        QuestionKind::Isolate => read_second_place(alloc, devices, line, words),
         QuestionKind::NoLoop => Ok((None, words)),
     }
 }
@@ -143,14 +144,14 @@ fn read_second<'a>(
 #[tactic(auto, unfolding(crate::specs::Reading::second_place))]
 fn read_second_place<'a>(
     alloc: Global,
-    network: &Network,
+    devices: &DeviceIndex,
     line: u32,
     words: &'a [Text],
 ) -> Result<(Option<Place>, &'a [Text]), QuestionFail>
-    ensures { Gives (λ x. (x.0, x.1.now)) result (second_place network.now line words.now) }
+    ensures { Gives (λ x. (x.0, x.1.now)) result (second_place devices.now line words.now) }
 {
     let rest = read_to(alloc, line, words)?;
-    let (place, rest) = read_place(alloc, network, line, rest)?;
+    let (place, rest) = read_place(alloc, devices, line, rest)?;
     Ok((Some(place), rest))
 }
 
@@ -172,16 +173,16 @@ fn read_to<'a>(alloc: Global, line: u32, words: &'a [Text]) -> Result<&'a [Text]
 #[tactic(auto, unfolding(crate::specs::Reading::place_at))]
 fn read_place<'a>(
     alloc: Global,
-    network: &Network,
+    devices: &DeviceIndex,
     line: u32,
     words: &'a [Text],
 ) -> Result<(Place, &'a [Text]), QuestionFail>
-    ensures { Gives (λ x. (x.0, x.1.now)) result (place_at network.now line words.now) }
+    ensures { Gives (λ x. (x.0, x.1.now)) result (place_at devices.now line words.now) }
 {
     let [word, rest @ ..] = words else {
         return Err(missing(alloc, line));
     };
-    let Some(device) = device_called(network, word) else {
+    let Some(device) = devices.device_called(word) else {
         return Err(at_word(alloc, QuestionRefusal::UnknownPlace, line, word));
     };
     read_interface(alloc, device, line, rest)
@@ -191,7 +192,7 @@ fn read_place<'a>(
 #[tactic(auto, unfolding(crate::specs::Reading::interface_at))]
 fn read_interface<'a>(
     alloc: Global,
-    device: &NetDevice,
+    device: &PlaceIndex,
     line: u32,
     words: &'a [Text],
 ) -> Result<(Place, &'a [Text]), QuestionFail>
@@ -200,28 +201,10 @@ fn read_interface<'a>(
     let [word, rest @ ..] = words else {
         return Err(missing(alloc, line));
     };
-    let Some(place) = place_called(device, word) else {
+    let Some(place) = device.place_called(word) else {
         return Err(at_word(alloc, QuestionRefusal::UnknownPlace, line, word));
     };
     Ok((place, rest))
-}
-
-// The first device of this name.
-fn device_called<'a>(network: &'a Network, name: &Text) -> Option<&'a NetDevice>
-    ensures { option_copied result ≡ device_called network.now name.now }
-{
-    network.devices.as_slice().iter().find(|d| same_text(
-        d.config.hostname.as_bytes(),
-        name.as_bytes(),
-    ))
-}
-
-// The place of the device's first interface of this name.
-fn place_called(device: &NetDevice, name: &Text) -> Option<Place>
-    ensures { result ≡ place_called device.now name.now }
-{
-    let seat = seat_named(device, name.as_bytes())?;
-    Some(seat.place)
 }
 
 // A filter, by pairs of a field's name and a text of it.
@@ -232,46 +215,42 @@ fn read_filter(alloc: Global, line: u32, words: &[Text]) -> Result<Cube, Questio
     let mut filter = everything();
     let mut rest = words;
     while let Some((name, others)) = first(rest) {
-        let field = read_field(alloc, line, &named, name)?;
+        let field = read_name(alloc, line, &named, name)?;
         let Some((text, others)) = first(others) else {
             return Err(missing(alloc, line));
         };
         let bits = read_bits(alloc, line, field, text)?;
         filter = with_field(&filter, field, bits);
-        named.push(field.shift)?;
+        named.push(field)?;
         rest = others;
     }
     Ok(filter)
 }
 
 // The field of this name, that isn't named yet.
-fn read_field(alloc: Global, line: u32, named: &[u32], word: &Text) -> Result<Field, QuestionFail>
-    ensures field { Gives (λ x. x) result (free_field line named.now word.now) }
-    ensures within { IfOk result (λ x. x.shift + x.width ≤ 112) }
-    ensures width { IfOk result (λ x. x.width ≤ 32) }
+fn read_name(alloc: Global, line: u32, named: &[Field], word: &Text) -> Result<Field, QuestionFail>
+    ensures { Gives (λ x. x) result (free_field line named.now word.now) }
 {
     let Some(field) = field_named(word.as_bytes()) else {
         return Err(at_word(alloc, QuestionRefusal::BadWord, line, word));
     };
-    if is_named(named, field.shift) {
+    if is_among(named, field) {
         return Err(at_word(alloc, QuestionRefusal::BadWord, line, word));
     }
     Ok(field)
 }
 
-fn is_named(named: &[u32], shift: u32) -> bool
-    ensures { result ≡ list_any (λ s. s == shift) named.now }
-{
-    named.iter().any(|s| *s == shift)
-}
-
-// What a text of the field fixes.
-fn read_bits(alloc: Global, line: u32, field: Field, word: &Text) -> Result<FieldBits, QuestionFail>
-    requires { field.width ≤ 32 }
+// Which bits of the field its text fixes, and the digits at those.
+fn read_bits(
+    alloc: Global,
+    line: u32,
+    field: Field,
+    word: &Text,
+) -> Result<(u32, u32), QuestionFail>
     ensures bits { Gives (λ x. x) result (bits_at line field word.now) }
-    ensures within { IfOk result (λ m. m.fixed < 2 ^ field.width) }
+    ensures field { IfOk result (λ f. IsField (place_of field) f.0 f.1) }
 {
-    let Some(bits) = field_of(alloc, field, word.as_bytes())? else {
+    let Some(bits) = field_of(field, word.as_bytes()) else {
         return Err(at_word(alloc, QuestionRefusal::BadWord, line, word));
     };
     Ok(bits)
@@ -285,11 +264,9 @@ fn everything() -> Cube
 }
 
 // The cube, with these bits of the field fixed too.
-fn with_field(filter: &Cube, field: Field, bits: FieldBits) -> Cube
-    requires within { field.shift + field.width ≤ 112 }
-    requires width { field.width ≤ 32 }
-    requires fixed { bits.fixed < 2 ^ field.width }
-    ensures { masks_of result ≡ (bit_or filter.now.fixed (bits.fixed * 2 ^ field.shift), bit_or filter.now.bits (bit_and bits.bits bits.fixed * 2 ^ field.shift)) }
+fn with_field(filter: &Cube, field: Field, bits: (u32, u32)) -> Cube
+    requires { IsField (place_of field) bits.0 bits.1 }
+    ensures { masks_of result ≡ (bit_or filter.now.fixed (bits.0 * 2 ^ shift_of field), bit_or filter.now.bits (bits.1 * 2 ^ shift_of field)) }
 {
     let cube = field_cube(field, bits);
     Cube {
@@ -299,16 +276,15 @@ fn with_field(filter: &Cube, field: Field, bits: FieldBits) -> Cube
 }
 
 // The headers whose field has these bits.
-fn field_cube(field: Field, bits: FieldBits) -> Cube
-    requires within { field.shift + field.width ≤ 112 }
-    requires width { field.width ≤ 32 }
-    requires fixed { bits.fixed < 2 ^ field.width }
-    ensures { masks_of result ≡ (bits.fixed * 2 ^ field.shift, bit_and bits.bits bits.fixed * 2 ^ field.shift) }
+fn field_cube(field: Field, bits: (u32, u32)) -> Cube
+    requires { IsField (place_of field) bits.0 bits.1 }
+    ensures { masks_of result ≡ (bits.0 * 2 ^ shift_of field, bits.1 * 2 ^ shift_of field) }
 {
-    let weight: u128 = 1 << field.shift;
+    let (fixed, bits) = bits;
+    let weight: u128 = 1 << field.shift();
     Cube {
-        fixed: u128::from(bits.fixed) * weight,
-        bits: u128::from(bits.bits & bits.fixed) * weight,
+        fixed: u128::from(fixed) * weight,
+        bits: u128::from(bits) * weight,
     }
 }
 
