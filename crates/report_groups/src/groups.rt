@@ -14,9 +14,8 @@ use std::alloc::Global;
 /// The rows of one ingress, joined as far as they can be.
 ///
 /// Groups with equal outcomes that are equal in five of the six fields are joined in the sixth, until there are none.
-/// Groups, and the patterns of a field, stand in the order in which the rows have them first.
-///
-/// What the groups stand for are exactly the rows: none is left out, and none is in two groups.
+/// What the groups stand for are exactly the rows: none is left out, and none is in two groups. In which order groups and
+/// the patterns of a field stand isn't promised.
 pub fn group_rows(alloc: Global, rows: &[Row]) -> Result<Vec<Group>, NoMemory>
     ensures { IfOk result (λ groups. IsGrouping rows.now groups.items) }
 {

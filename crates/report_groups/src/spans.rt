@@ -7,9 +7,10 @@ use crate::types::{Pattern, Span, Values};
 use net_types::{List, NoMemory};
 use std::alloc::Global;
 
-/// The values of a field of `width` bits as spans, and those patterns that are none.
+/// The values of a field of `width` bits, 0 to 32, as spans and further patterns: they hold exactly the values that the patterns
+/// hold.
 ///
-/// A pattern is a span where its last bits are open and all others fixed. Spans that touch or overlap are joined.
+/// How the values are divided isn't promised.
 pub fn values_of(alloc: Global, patterns: &[Pattern], width: u32) -> Result<Values, NoMemory>
     requires { width ≤ 32 }
     ensures { IfOk result (λ values. HoldSame width patterns.now values.spans values.others) }
@@ -22,7 +23,7 @@ pub fn values_of(alloc: Global, patterns: &[Pattern], width: u32) -> Result<Valu
     })
 }
 
-// The span of each pattern that is one, and the others.
+// The span of each pattern that is one, and the others. Which they are is for the reader's sake, and no clause says it.
 fn parted(
     alloc: Global,
     patterns: &[Pattern],

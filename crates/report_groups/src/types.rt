@@ -43,9 +43,9 @@ pub struct Span {
 /// The values of a field as a person reads them.
 #[derive(Drop)]
 pub struct Values {
-    /// Apart, and with a gap between each two.
+    /// Values that follow each other.
     pub spans: List<Span>,
-    /// Patterns that are no span, in their order.
+    /// What is given by its bits.
     pub others: List<Pattern>,
 }
 

@@ -26,9 +26,13 @@ status_of (stop.NotFound path) = 8
 abbrev pub path_line : List ℕ → List ℕ → List ℕ
 path_line words path = words ++ path ++ 10 ∷ []
 
+-- `cannot read PATH`
+abbrev pub cannot_read_line : List ℕ → List ℕ
+cannot_read_line path = path_line (codes "cannot read ") path
+
 abbrev pub line_of : Stop → List ℕ
 line_of (stop.Refused path line) = codes "refused " ++ path ++ codes " line " ++ decimal line ++ 10 ∷ []
-line_of (stop.CannotRead path) = path_line (codes "cannot read ") path
+line_of (stop.CannotRead path) = cannot_read_line path
 line_of (stop.TooLong path) = path_line (codes "too long ") path
 line_of stop.NoMemory = no_memory_text
 line_of (stop.NotFound path) = path_line (codes "not found ") path

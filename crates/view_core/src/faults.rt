@@ -1,8 +1,10 @@
 //! The line at which a text stops being a report.
-ghost use Rattle.report_text.specs.Reports.{AreNames};
+ghost use Rattle.std.specs.Prelude.{◌≤◌, IfOk, length};
+ghost use Rattle.view_core.specs.Names.{text_lines};
 
 use crate::append::append;
-use net_types::{Names, NoMemory};
+use crate::names::names_of;
+use net_types::NoMemory;
 use report_text::{ReportFail, read_report};
 use std::alloc::Global;
 
@@ -20,9 +22,11 @@ enum Next {
 
 /// The first line, from 1, that is none of a report's in its place; the line behind the last one where all are.
 ///
-/// Each line is tried in a short report that has it. A wrong count shows at the first line that it makes wrong.
-pub(crate) fn fault_line(alloc: Global, names: &Names, bytes: &[u8]) -> Result<u64, NoMemory>
-    requires { AreNames names.now.texts }
+/// Each line is tried in a short report that has it, over the names of that report alone. A wrong count shows at the first line
+/// that it makes wrong. No clause says which line it is.
+pub(crate) fn fault_line(alloc: Global, bytes: &[u8]) -> Result<u64, NoMemory>
+    ensures low { IfOk result (λ line. 1 ≤ line) }
+    ensures high { IfOk result (λ line. line ≤ length (text_lines bytes.now)) }
 {
     let mut place = Place {
         next: Next::Ingress,
@@ -32,7 +36,7 @@ pub(crate) fn fault_line(alloc: Global, names: &Names, bytes: &[u8]) -> Result<u
     let mut number: u64 = 0;
     for line in bytes.split(|b| *b == b'\n') {
         number = number.saturating_add(1);
-        if !step(alloc, names, line, &mut place)? {
+        if !step(alloc, line, &mut place)? {
             return Ok(number);
         }
     }
@@ -48,18 +52,16 @@ struct Place {
 }
 
 // Goes over a line, and answers whether it may stand there.
-fn step(alloc: Global, names: &Names, line: &[u8], place: &mut Place) -> Result<bool, NoMemory>
-    requires { AreNames names.now.texts }
-{
+fn step(alloc: Global, line: &[u8], place: &mut Place) -> Result<bool, NoMemory> {
     match place.next {
         Next::End => Ok(false),
         Next::Cube => {
             place.next = Next::Old;
-            is_row(alloc, names, line, b"old drop", b"new drop")
+            is_row(alloc, line, b"old drop", b"new drop")
         }
         Next::Old => {
             place.next = Next::New;
-            is_row(alloc, names, OPEN, line, b"new drop")
+            is_row(alloc, OPEN, line, b"new drop")
         }
         Next::New => {
             place.left = place.left.saturating_sub(1);
@@ -69,18 +71,16 @@ fn step(alloc: Global, names: &Names, line: &[u8], place: &mut Place) -> Result<
             } else {
                 Next::Cube
             };
-            is_row(alloc, names, OPEN, b"old drop", line)
+            is_row(alloc, OPEN, b"old drop", line)
         }
-        Next::Ingress => step_out(alloc, names, line, place),
+        Next::Ingress => step_out(alloc, line, place),
     }
 }
 
 const OPEN: &[u8] = b"dst * src * proto * dport * sport * flags *";
 
 // An ingress, or the last line.
-fn step_out(alloc: Global, names: &Names, line: &[u8], place: &mut Place) -> Result<bool, NoMemory>
-    requires { AreNames names.now.texts }
-{
+fn step_out(alloc: Global, line: &[u8], place: &mut Place) -> Result<bool, NoMemory> {
     if let Some(count) = count_behind(line, b"affected ") {
         place.next = Next::End;
         return Ok(count == place.rows);
@@ -95,7 +95,7 @@ fn step_out(alloc: Global, names: &Names, line: &[u8], place: &mut Place) -> Res
     if count > 0 {
         place.next = Next::Cube;
     }
-    is_ingress(alloc, names, front)
+    is_ingress(alloc, front)
 }
 
 // The number behind these words, where the line has nothing else.
@@ -142,37 +142,21 @@ fn count_of(word: &[u8]) -> Option<u64> {
 }
 
 // Whether these words and `0` are the line of an ingress.
-fn is_ingress(alloc: Global, names: &Names, front: &[u8]) -> Result<bool, NoMemory>
-    requires { AreNames names.now.texts }
-{
+fn is_ingress(alloc: Global, front: &[u8]) -> Result<bool, NoMemory> {
     let mut text = Vec::new(alloc);
     append(&mut text, front)?;
     append(&mut text, b"0\naffected 0\n")?;
-    is_report(alloc, names, &text)
+    is_report(alloc, &text)
 }
 
 // Whether the three lines are a row.
-fn is_row(
-    alloc: Global,
-    names: &Names,
-    cube: &[u8],
-    old: &[u8],
-    new: &[u8],
-) -> Result<bool, NoMemory>
-    requires { AreNames names.now.texts }
-{
-    let Some(name) = names.texts.as_slice().first() else {
-        return Ok(false);
-    };
+fn is_row(alloc: Global, cube: &[u8], old: &[u8], new: &[u8]) -> Result<bool, NoMemory> {
     let mut text = Vec::new(alloc);
-    append(&mut text, b"ingress ")?;
-    append(&mut text, name.as_bytes())?;
-    append(&mut text, b" ")?;
-    append(&mut text, name.as_bytes())?;
-    append(&mut text, b" rows 1\n")?;
+    // Any place serves.
+    append(&mut text, b"ingress a b rows 1\n")?;
     append_row(&mut text, cube, old, new)?;
     append(&mut text, b"affected 1\n")?;
-    is_report(alloc, names, &text)
+    is_report(alloc, &text)
 }
 
 fn append_row(text: &mut Vec<u8>, cube: &[u8], old: &[u8], new: &[u8]) -> Result<(), NoMemory> {
@@ -184,10 +168,9 @@ fn append_row(text: &mut Vec<u8>, cube: &[u8], old: &[u8], new: &[u8]) -> Result
     append(text, b"\n")
 }
 
-fn is_report(alloc: Global, names: &Names, text: &[u8]) -> Result<bool, NoMemory>
-    requires { AreNames names.now.texts }
-{
-    match read_report(alloc, names, text) {
+fn is_report(alloc: Global, text: &[u8]) -> Result<bool, NoMemory> {
+    let names = names_of(alloc, text)?;
+    match read_report(alloc, &names, text) {
         Ok(_) => Ok(true),
         Err(ReportFail::NotReport) => Ok(false),
         Err(ReportFail::NoMemory) => Err(NoMemory),

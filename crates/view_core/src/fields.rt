@@ -3,18 +3,30 @@
 ghost use Rattle.std.specs.Prelude.{◌≤◌};
 
 use crate::append::{append, append_number};
-use crate::labels::{icmp_code, icmp_type, port, protocol};
+use crate::labels::{Service, icmp_code, icmp_type, port, protocol};
 use net_types::NoMemory;
 use report_groups::{Group, Pattern, Span, values_of};
 use report_text::address_bytes;
 use std::alloc::Global;
+
+// A protocol that is fixed, and the protocols whose ports have names or stand for messages.
+const ALL_BITS: u32 = 255;
+
+const ICMP: u32 = 1;
+
+const TCP: u32 = 6;
+
+const UDP: u32 = 17;
+
+// The codes of an ICMP type: a message is a type times this, and a code.
+const CODES: u32 = 256;
 
 /// What the numbers of a field are.
 #[derive(Clone, Copy, PartialEq, Eq)]
 enum Kind {
     Address,
     Protocol,
-    Port,
+    Port(Service),
     Message,
 }
 
@@ -28,11 +40,16 @@ pub(crate) fn append_fields(
         return Ok(());
     };
     let start = out.len();
-    let only_icmp = is_only_icmp(proto.as_slice());
     append_field(alloc, out, b"  dst ", dst.as_slice(), 32, Kind::Address)?;
     append_field(alloc, out, b"  src ", src.as_slice(), 32, Kind::Address)?;
     append_field(alloc, out, b"  ", proto.as_slice(), 8, Kind::Protocol)?;
-    append_ports(alloc, out, dport.as_slice(), sport.as_slice(), only_icmp)?;
+    append_ports(
+        alloc,
+        out,
+        dport.as_slice(),
+        sport.as_slice(),
+        proto.as_slice(),
+    )?;
     append_flags(out, flags.as_slice())?;
     if out.len() == start {
         append(out, b"  any header")?;
@@ -45,20 +62,40 @@ fn append_ports(
     out: &mut Vec<u8>,
     dport: &[Pattern],
     sport: &[Pattern],
-    only_icmp: bool,
+    proto: &[Pattern],
 ) -> Result<(), NoMemory> {
-    append_field(alloc, out, b"  dport ", dport, 16, Kind::Port)?;
-    if only_icmp {
+    let ports = Kind::Port(service_of(proto));
+    append_field(alloc, out, b"  dport ", dport, 16, ports)?;
+    if is_only_icmp(proto) {
         append_field(alloc, out, b"  ", sport, 16, Kind::Message)
     } else {
-        append_field(alloc, out, b"  sport ", sport, 16, Kind::Port)
+        append_field(alloc, out, b"  sport ", sport, 16, ports)
     }
 }
 
 fn is_only_icmp(proto: &[Pattern]) -> bool {
     match proto {
-        [only] => only.fixed == 255 && only.bits == 1,
+        [only] => is_fixed(only, ICMP),
         _ => false,
+    }
+}
+
+fn is_fixed(pattern: &Pattern, protocol: u32) -> bool {
+    pattern.fixed == ALL_BITS && pattern.bits == protocol
+}
+
+// Whose names the ports have: those of all protocols, where each is TCP or UDP.
+fn service_of(proto: &[Pattern]) -> Service {
+    if !proto.iter().all(|p| is_fixed(p, TCP) || is_fixed(p, UDP)) {
+        return Service::Unknown;
+    }
+    let tcp = proto.iter().any(|p| is_fixed(p, TCP));
+    let udp = proto.iter().any(|p| is_fixed(p, UDP));
+    match (tcp, udp) {
+        (true, true) => Service::Both,
+        (true, false) => Service::Tcp,
+        (false, true) => Service::Udp,
+        (false, false) => Service::Unknown,
     }
 }
 
@@ -105,7 +142,7 @@ fn append_span(alloc: Global, out: &mut Vec<u8>, span: Span, kind: Kind) -> Resu
     match kind {
         Kind::Address => append_addresses(alloc, out, span),
         Kind::Protocol => append_protocols(out, span),
-        Kind::Port => append_port_span(out, span),
+        Kind::Port(service) => append_port_span(out, span, service),
         Kind::Message => append_messages(out, span),
     }
 }
@@ -149,12 +186,12 @@ fn append_protocols(out: &mut Vec<u8>, span: Span) -> Result<(), NoMemory> {
     append_range(out, span)
 }
 
-fn append_port_span(out: &mut Vec<u8>, span: Span) -> Result<(), NoMemory> {
+fn append_port_span(out: &mut Vec<u8>, span: Span, service: Service) -> Result<(), NoMemory> {
     append_range(out, span)?;
     if span.low != span.high {
         return Ok(());
     }
-    let Some(name) = port(span.low) else {
+    let Some(name) = port(span.low, service) else {
         return Ok(());
     };
     append(out, b" (")?;
@@ -164,8 +201,9 @@ fn append_port_span(out: &mut Vec<u8>, span: Span) -> Result<(), NoMemory> {
 
 // ICMP messages: a type with all its codes, or a code.
 fn append_messages(out: &mut Vec<u8>, span: Span) -> Result<(), NoMemory> {
-    let kind = span.low / 256;
-    if span.low % 256 == 0 && span.high == span.low.saturating_add(255) {
+    let kind = span.low / CODES;
+    let code = span.low % CODES;
+    if code == 0 && span.high == span.low.saturating_add(CODES - 1) {
         if let Some(name) = icmp_type(kind) {
             return append(out, name);
         }
@@ -176,13 +214,13 @@ fn append_messages(out: &mut Vec<u8>, span: Span) -> Result<(), NoMemory> {
         append(out, b"icmp type*256+code ")?;
         return append_range(out, span);
     }
-    if let Some(name) = icmp_code(span.low) {
+    if let Some(name) = icmp_code(kind, code) {
         return append(out, name);
     }
     append(out, b"icmp type ")?;
     append_number(out, kind)?;
     append(out, b" code ")?;
-    append_number(out, span.low % 256)
+    append_number(out, code)
 }
 
 // The number, or the first and the last one.

@@ -1,15 +1,17 @@
 //! A report as one page of HTML, which needs no other file.
 //!
 //! Text of the report and of the link table stands in the page as `append_escaped` writes it, and nowhere else.
+ghost use Rattle.std.specs.Prelude.{true, IfOk};
+ghost use Rattle.view_core.specs.Views.{IsView};
 
 use crate::append::{append, append_number};
 use crate::escape::append_escaped;
 use crate::fields::append_fields;
 use crate::picture::append_picture;
-use crate::script::{CHANGES, FORM, HEAD, TABLE, TAIL};
-use crate::text::{ORDER, append_outcomes, append_place, change_name};
+use crate::script::{CHANGES, DOCTYPE, FORM, HEAD, TABLE, TAIL};
+use crate::text::{ORDER, append_outcomes, append_place, change_name, changes_of};
 use net_types::{List, Names, NoMemory, Outcome, Section};
-use report_groups::{Change, Group, Pattern, change_of, group_rows};
+use report_groups::{Change, Group, Pattern, group_rows};
 use std::alloc::Global;
 use topo_links::LinkTable;
 
@@ -19,58 +21,70 @@ pub(crate) fn page_bytes(
     names: &Names,
     sections: &[Section],
     links: &Option<LinkTable>,
-) -> Result<Vec<u8>, NoMemory> {
+) -> Result<Vec<u8>, NoMemory>
+    ensures { IfOk result (λ text. IsView true sections.now text.items) }
+{
     let mut rows = Vec::new(alloc);
-    let mut count: u64 = 0;
-    let mut place: u64 = 0;
-    for section in sections {
-        let added = append_section(alloc, &mut rows, names, section, place)?;
-        count = count.saturating_add(added);
-        place = place.saturating_add(1);
-    }
+    let count = append_rows(alloc, &mut rows, names, sections)?;
+    let places = places_bytes(alloc, names, sections)?;
+    let network = network_bytes(alloc, names, sections, links)?;
     let mut page = Vec::new(alloc);
+    append(&mut page, DOCTYPE)?;
     append(&mut page, HEAD)?;
     append_number(&mut page, count)?;
     append(&mut page, FORM)?;
-    append_places(alloc, &mut page, names, sections)?;
+    append(&mut page, &places)?;
     append(&mut page, CHANGES)?;
-    append_network(alloc, &mut page, names, sections, links)?;
+    append(&mut page, &network)?;
     append(&mut page, TABLE)?;
     append(&mut page, &rows)?;
     append(&mut page, TAIL)?;
     Ok(page)
 }
 
-fn append_network(
+// The rows of the table, and how many there are.
+fn append_rows(
     alloc: Global,
     out: &mut Vec<u8>,
+    names: &Names,
+    sections: &[Section],
+) -> Result<u64, NoMemory> {
+    let mut count: u64 = 0;
+    let mut place: u64 = 0;
+    for section in sections {
+        let added = append_section(alloc, out, names, section, place)?;
+        count = count.saturating_add(added);
+        place = place.saturating_add(1);
+    }
+    Ok(count)
+}
+
+fn network_bytes(
+    alloc: Global,
     names: &Names,
     sections: &[Section],
     links: &Option<LinkTable>,
-) -> Result<(), NoMemory> {
-    match links {
-        Some(table) => append_picture(alloc, out, names, sections, table),
-        None => Ok(()),
+) -> Result<Vec<u8>, NoMemory> {
+    let mut network = Vec::new(alloc);
+    if let Some(table) = links {
+        append_picture(alloc, &mut network, names, sections, table)?;
     }
+    Ok(network)
 }
 
 // A choice for each ingress.
-fn append_places(
-    alloc: Global,
-    out: &mut Vec<u8>,
-    names: &Names,
-    sections: &[Section],
-) -> Result<(), NoMemory> {
+fn places_bytes(alloc: Global, names: &Names, sections: &[Section]) -> Result<Vec<u8>, NoMemory> {
+    let mut places = Vec::new(alloc);
     let mut number: u64 = 0;
     for section in sections {
-        append(out, b"<option value='")?;
-        append_number(out, number)?;
-        append(out, b"'>")?;
-        append_ingress(alloc, out, names, section)?;
-        append(out, b"</option>")?;
+        append(&mut places, b"<option value='")?;
+        append_number(&mut places, number)?;
+        append(&mut places, b"'>")?;
+        append_ingress(alloc, &mut places, names, section)?;
+        append(&mut places, b"</option>")?;
         number = number.saturating_add(1);
     }
-    Ok(())
+    Ok(places)
 }
 
 fn append_ingress(
@@ -93,9 +107,10 @@ fn append_section(
     place: u64,
 ) -> Result<u64, NoMemory> {
     let groups = group_rows(alloc, section.rows.as_slice())?;
+    let changes = changes_of(alloc, &groups)?;
     for change in &ORDER {
-        for group in &groups {
-            if change_of(group.old.as_slice(), group.new.as_slice()) == *change {
+        for (group, found) in groups.iter().zip(changes.iter()) {
+            if *found == *change {
                 append_start(out, group, place, *change)?;
                 append_ingress(alloc, out, names, section)?;
                 append_group(alloc, out, names, group, *change)?;

@@ -6,15 +6,36 @@ use net_types::{Label, Names, NoMemory, Outcome, Section, Text};
 use std::alloc::Global;
 use topo_links::{LinkKind, LinkTable, NameIndex};
 
-// Thousandths of the sine of 0 to 90 degrees, in steps of 5.
+// Devices stand on a polygon whose corners lie on a circle, with the same share of its sides between each two.
+
+// Thousandths of the sine at the corners of a quarter of it, 5 degrees apart.
 const SINES: [u64; 19] = [
     0, 87, 174, 259, 342, 423, 500, 574, 643, 707, 766, 819, 866, 906, 940, 966, 985, 996, 1000,
 ];
 
-// How far the circle is from the edge of the picture, and how far from its middle.
+// The corners of a quarter, of a half and of the whole polygon.
+const QUARTER: usize = 18;
+
+const HALF: usize = 36;
+
+const CORNERS: usize = 72;
+
+// How many thousandths one is.
+const THOUSAND: u64 = 1000;
+
+// A side has so many parts: a device's place on the polygon is a number of parts from the top, clockwise.
+const PARTS: u64 = 1000;
+
+// How far the circle is from the edge of the picture.
 const EDGE: u64 = 70;
 
-const RADIUS: u64 = 280;
+// How far it is from its middle: at least so far, and so far for each device, which leaves some 60 between each two.
+const LEAST_RADIUS: u64 = 280;
+
+const RADIUS_FOR_EACH: u64 = 10;
+
+// How far the name stands below its device.
+const NAME_BELOW: u64 = 30;
 
 /// A picture of the network: devices that an outcome names are marked, and so are those where packets enter.
 pub(crate) fn append_picture(
@@ -27,10 +48,7 @@ pub(crate) fn append_picture(
     let devices = devices_of(alloc, table)?;
     let ends = ends_of(alloc, names, sections)?;
     let entries = entries_of(alloc, table)?;
-    append(
-        out,
-        b"<svg viewBox='0 0 700 700' width='700' height='700' role='img' aria-label='The devices and their links'>\n",
-    )?;
+    append_frame(out, devices.len())?;
     append_lines(out, &devices, table)?;
     append_devices(alloc, out, &devices, &ends, &entries)?;
     append(out, b"</svg>\n")
@@ -94,33 +112,73 @@ fn device_of<'n>(names: &'n Names, outcome: &Outcome) -> Option<&'n Text> {
     }
 }
 
-// A thousand more than the thousandths of a sine, of degrees in steps of 5.
-fn wave(step: usize) -> u64 {
-    let step = step % 72;
-    if step <= 18 {
-        SINES[step].saturating_add(1000)
-    } else if step <= 36 {
-        SINES[36 - step].saturating_add(1000)
-    } else if step <= 54 {
-        1000u64.saturating_sub(SINES[step - 36])
+// The start of the picture, a square as large as the circle and its edges.
+fn append_frame(out: &mut Vec<u8>, count: usize) -> Result<(), NoMemory> {
+    let size = radius_of(count).saturating_add(EDGE).saturating_mul(2);
+    append(out, b"<svg viewBox='0 0 ")?;
+    append_number(out, size)?;
+    append(out, b" ")?;
+    append_number(out, size)?;
+    append(out, b"' width='")?;
+    append_number(out, size)?;
+    append(out, b"' height='")?;
+    append_number(out, size)?;
+    append(
+        out,
+        b"' role='img' aria-label='The devices and their links'>\n",
+    )
+}
+
+fn radius_of(count: usize) -> u64 {
+    let radius = (count as u64).saturating_mul(RADIUS_FOR_EACH);
+    if radius < LEAST_RADIUS {
+        LEAST_RADIUS
     } else {
-        1000u64.saturating_sub(SINES[72 - step])
+        radius
     }
+}
+
+// A thousand more than the thousandths of the sine at a corner.
+fn wave(corner: u64) -> u64 {
+    let corner = (corner % CORNERS as u64) as usize;
+    if corner <= QUARTER {
+        SINES[corner].saturating_add(THOUSAND)
+    } else if corner <= HALF {
+        SINES[HALF - corner].saturating_add(THOUSAND)
+    } else if corner <= HALF + QUARTER {
+        THOUSAND.saturating_sub(SINES[corner - HALF])
+    } else {
+        THOUSAND.saturating_sub(SINES[CORNERS - corner])
+    }
+}
+
+// How far a place is on the way across the circle, in parts of thousandths of its radius: along the side between two corners.
+fn along(place: u64) -> u64 {
+    let corner = place / PARTS;
+    let part = place % PARTS;
+    let before = wave(corner).saturating_mul(PARTS.saturating_sub(part));
+    let behind = wave(corner.saturating_add(1)).saturating_mul(part);
+    before.saturating_add(behind)
 }
 
 // Where device `k` of `count` stands: across and down, from the top.
 fn point(k: usize, count: usize) -> (u64, u64) {
-    let step = if count == 0 {
+    let whole = (CORNERS as u64).saturating_mul(PARTS);
+    let place = if count == 0 {
         0
     } else {
-        (k % 4096) * 72 / count
+        (k as u64).saturating_mul(whole) / count as u64
     };
-    let turned = step % 72 + 18;
-    (place_at(wave(step)), place_at(wave(turned + 36)))
+    let down = place.saturating_add(((HALF + QUARTER) as u64).saturating_mul(PARTS));
+    let radius = radius_of(count);
+    (
+        across_of(along(place), radius),
+        across_of(along(down), radius),
+    )
 }
 
-fn place_at(wave: u64) -> u64 {
-    (wave.saturating_mul(RADIUS) / 1000).saturating_add(EDGE)
+fn across_of(along: u64, radius: u64) -> u64 {
+    (along.saturating_mul(radius) / (THOUSAND * PARTS)).saturating_add(EDGE)
 }
 
 fn append_lines(out: &mut Vec<u8>, devices: &NameIndex, table: &LinkTable) -> Result<(), NoMemory> {
@@ -199,7 +257,7 @@ fn append_name(out: &mut Vec<u8>, across: u64, down: u64, name: &Text) -> Result
     append(out, b"<text x='")?;
     append_number(out, across)?;
     append(out, b"' y='")?;
-    append_number(out, down.saturating_add(30))?;
+    append_number(out, down.saturating_add(NAME_BELOW))?;
     append(out, b"'>")?;
     append_escaped(out, name.as_bytes())?;
     append(out, b"</text>\n")

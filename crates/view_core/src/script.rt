@@ -1,8 +1,10 @@
 //! The constant parts of a page.
 
-/// What stands before the count of groups.
-pub(crate) const HEAD: &[u8] = b"<!doctype html>
-<html lang='en'>
+/// How a page begins.
+pub(crate) const DOCTYPE: &[u8] = b"<!doctype html>\n";
+
+/// What stands behind that, before the count of groups.
+pub(crate) const HEAD: &[u8] = b"<html lang='en'>
 <head>
 <meta charset='utf-8'>
 <meta name='viewport' content='width=device-width'>

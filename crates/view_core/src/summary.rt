@@ -3,7 +3,7 @@
 use crate::append::{append, append_number};
 use crate::text::{ORDER, change_name};
 use indexmap::IndexMap;
-use net_types::{Names, NoMemory, Section};
+use net_types::{Names, NoMemory};
 use report_groups::{Change, Group};
 use report_text::outcome_bytes;
 use std::alloc::Global;
@@ -97,15 +97,15 @@ fn row_count(group: &Group) -> u64 {
     rows
 }
 
-/// The summary: a line for each kind of change that there is, and one for each outcome in the order of its text.
-pub(crate) fn append_summary(
-    out: &mut Vec<u8>,
-    counts: &Counts,
-    sections: &[Section],
-) -> Result<(), NoMemory> {
-    append(out, b"summary: ingresses ")?;
-    append_number(out, sections.len())?;
-    append(out, b"\n")?;
+/// The lines of the summary: one for each kind of change that there is, and one for each outcome in the order of its text.
+pub(crate) fn summary_bytes(alloc: Global, counts: &Counts) -> Result<Vec<u8>, NoMemory> {
+    let mut lines = Vec::new(alloc);
+    append_changes(&mut lines, counts)?;
+    append_outcomes(&mut lines, counts)?;
+    Ok(lines)
+}
+
+fn append_changes(out: &mut Vec<u8>, counts: &Counts) -> Result<(), NoMemory> {
     for k in 0..5 {
         if counts.changes[k] > 0 {
             append(out, b"  ")?;
@@ -115,7 +115,7 @@ pub(crate) fn append_summary(
             append(out, b"\n")?;
         }
     }
-    append_outcomes(out, counts)
+    Ok(())
 }
 
 fn append_outcomes(out: &mut Vec<u8>, counts: &Counts) -> Result<(), NoMemory> {

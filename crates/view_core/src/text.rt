@@ -1,8 +1,10 @@
 //! A report as text for a person.
+ghost use Rattle.std.specs.Prelude.{◌≡◌, ◌++◌, ℕ, false, length, IfOk, OnOk};
+ghost use Rattle.view_core.specs.Views.{IsView, summary_head};
 
 use crate::append::{append, append_number};
 use crate::fields::append_fields;
-use crate::summary::{Counts, append_summary};
+use crate::summary::{Counts, summary_bytes};
 use net_types::{List, Names, NoMemory, Outcome, Place, Section};
 use report_groups::{Change, Group, change_of, group_rows};
 use report_text::outcome_bytes;
@@ -33,15 +35,38 @@ pub(crate) fn view_bytes(
     alloc: Global,
     names: &Names,
     sections: &[Section],
-) -> Result<Vec<u8>, NoMemory> {
+) -> Result<Vec<u8>, NoMemory>
+    ensures { IfOk result (λ text. IsView false sections.now text.items) }
+{
     let mut text = Vec::new(alloc);
     let mut counts = Counts::new(alloc);
     for section in sections {
         append_section(alloc, &mut text, names, section, &mut counts)?;
     }
     counts.sort()?;
-    append_summary(&mut text, &counts, sections)?;
+    let summary = summary_bytes(alloc, &counts)?;
+    append_head(&mut text, sections.len())?;
+    append(&mut text, &summary)?;
     Ok(text)
+}
+
+// How many ingresses there are.
+fn append_head(out: &mut Vec<u8>, ingresses: usize) -> Result<(), NoMemory>
+    ensures { OnOk result (out.new.items ≡ out.old.items ++ summary_head ingresses) }
+{
+    append(out, b"summary: ingresses ")?;
+    append_number(out, ingresses)?;
+    append(out, b"\n")?;
+    Ok(())
+}
+
+/// What each group does.
+pub(crate) fn changes_of(alloc: Global, groups: &[Group]) -> Result<Vec<Change>, NoMemory> {
+    let mut changes = Vec::with_capacity(alloc, groups.len())?;
+    for group in groups {
+        changes.push(change_of(group.old.as_slice(), group.new.as_slice()))?;
+    }
+    Ok(changes)
 }
 
 fn append_section(
@@ -53,10 +78,11 @@ fn append_section(
 ) -> Result<(), NoMemory> {
     let rows = section.rows.as_slice();
     let groups = group_rows(alloc, rows)?;
+    let changes = changes_of(alloc, &groups)?;
     append_heading(out, names, section.place, rows.len(), groups.len())?;
     for change in &ORDER {
-        for group in &groups {
-            if change_of(group.old.as_slice(), group.new.as_slice()) == *change {
+        for (group, found) in groups.iter().zip(changes.iter()) {
+            if *found == *change {
                 append_group(alloc, out, names, group, *change)?;
                 counts.add(alloc, names, group, *change)?;
             }
