@@ -4,11 +4,11 @@ ghost use Rattle.review_core.specs.Job.{has_rows};
 
 use net_types::Section;
 
-/// A report as it is written.
+/// A text as it is written, with what its status says.
 #[derive(Drop)]
 pub struct Report {
     pub text: Vec<u8>,
-    /// Whether it has a row, or a question that fails: some header is affected, or breaks it.
+    /// Whether it has something to look at, which is told by status 1: a row, a question that fails, or a finding of an audit.
     pub affected: bool,
 }
 

@@ -1,4 +1,4 @@
-ghost use Rattle.std.specs.Prelude.{◌≡◌, ◌≤◌, IfOk, IfSome, None, Some, Err, map, string_bytes};
+ghost use Rattle.std.specs.Prelude.{◌≡◌, ◌≤◌, IfOk, None, Some, Err, map, string_bytes};
 ghost use Rattle.review_args.specs.Commands as Commands;
 ghost use Rattle.review_core.specs.Words.{served, job_of, IsWithin};
 
@@ -68,10 +68,10 @@ pub(crate) fn asked_of(alloc: Global, words: &[String]) -> Result<Asked, WordsFa
 {
     let command = read_words(alloc, words)?;
     let workers = workers_of(&command);
-    match served(command) {
-        Some(job) => Ok(Asked { job, workers }),
-        None => Err(WordsFail::Refused),
-    }
+    Ok(Asked {
+        job: served(command),
+        workers,
+    })
 }
 
 // How many workers a command has; one, where it has no use for more.
@@ -87,11 +87,11 @@ fn workers_of(command: &Command) -> u32
     }
 }
 
-// The job of a command, where it is there.
-fn served(command: Command) -> Option<Job>
+// The job of a command.
+fn served(command: Command) -> Job
     requires { Commands.IsWithin command }
     ensures job { result ≡ served command }
-    ensures within { IfSome result IsWithin }
+    ensures within { IsWithin result }
 {
     match command {
         Command::Compare {
@@ -101,25 +101,25 @@ fn served(command: Command) -> Option<Job>
             new_links,
             workers: _,
             ttl,
-        } => Some(Job::Compare {
+        } => Job::Compare {
             old,
             new,
             links,
             new_links,
             ttl,
-        }),
+        },
         Command::Ask {
             net,
             links,
             questions,
             workers: _,
             ttl,
-        } => Some(Job::Ask {
+        } => Job::Ask {
             net,
             links,
             questions,
             ttl,
-        }),
+        },
         Command::Trace {
             net,
             links,
@@ -127,7 +127,7 @@ fn served(command: Command) -> Option<Job>
             interface,
             header,
             ttl,
-        } => Some(Job::Trace {
+        } => Job::Trace {
             net,
             links,
             packet: Packet {
@@ -136,12 +136,12 @@ fn served(command: Command) -> Option<Job>
                 header,
             },
             ttl,
-        }),
-        Command::Read { net } => Some(Job::Read { net }),
+        },
+        Command::Read { net } => Job::Read { net },
         Command::Gen {
             number,
             size,
             workers: _,
-        } => Some(Job::Gen { number, size }),
+        } => Job::Gen { number, size },
     }
 }
