@@ -21,8 +21,8 @@ fn of(name: &'static str, plan: Plan, places: [Place; 4]) -> Case {
     Case { name, plan, places }
 }
 
-/// Prints for each case of how many headers at edges the ways, the labels, or the equality of labels in both networks are
-/// wrong, whether some cubes of more than one header have one answer, and whether no header meets a difference from each
+/// Prints for each case of how many of the headers at edges the ways, the labels, or the equality of labels in both networks
+/// are wrong, whether some cubes of more than one header have one answer, and whether no header meets a difference from each
 /// of the places on. All is asked in both directions.
 pub(crate) fn show(rt: &HostRuntime) -> io::Result<()> {
     let two = [at(0, 0), at(0, 1), at(1, 0), at(1, 1)];
@@ -94,14 +94,21 @@ struct Found {
 }
 
 fn show_found(rt: &HostRuntime, name: &str, found: &Found) -> io::Result<()> {
-    let ways = found.ways.wrong;
+    print!(rt; "{name}: wrong ways ")?;
+    show_counted(rt, &found.ways)?;
+    print!(rt; ", labels ")?;
+    show_counted(rt, &found.labels)?;
+    print!(rt; ", equalities ")?;
+    show_counted(rt, &found.alike)?;
     let wide = found.ways.noted > 0;
-    let labels = found.labels.wrong;
-    let alike = found.alike.wrong;
     let calm = found.calm;
-    println!(rt;
-        "{name}: wrong ways {ways}, labels {labels}, equalities {alike}; one answer for several: {wide}; no difference from: {calm:?}"
-    )
+    println!(rt; "; one answer for several: {wide}; no difference from: {calm:?}")
+}
+
+fn show_counted(rt: &HostRuntime, counted: &Counted) -> io::Result<()> {
+    let wrong = counted.wrong;
+    let asked = counted.asked;
+    print!(rt; "{wrong} of {asked}")
 }
 
 fn take_all(alloc: Global, case: &Case, networks: &Networks) -> Result<Found, NoMemory> {

@@ -28,87 +28,96 @@ fn arriving(name: &'static str, plan: Plan, place: Place, header: Header) -> Cas
 
 /// Prints the moves of each case in order.
 pub(crate) fn show(rt: &HostRuntime) -> io::Result<()> {
-    let host = ip(10, 0, 0, 9);
-    let inside = web(ip(10, 0, 0, 5), ip(10, 9, 0, 2));
-    let global = web(ip(203, 0, 113, 5), ip(10, 9, 0, 2));
-    let denied = web(ip(10, 0, 1, 5), ip(10, 9, 0, 2));
-    let to_link = web(host, ip(10, 0, 1, 2));
-    let to_router = web(host, ip(10, 0, 1, 1));
-    let to_choices = web(host, ip(192, 168, 0, 7));
-    let served = secure(ip(198, 51, 100, 2));
-    let on_lan = web(ip(10, 0, 0, 9), ip(10, 0, 5, 2));
-    let beyond = web(ip(10, 0, 0, 9), ip(10, 8, 0, 7));
-    let as_it_is = web(ip(10, 0, 0, 9), ip(198, 51, 100, 7));
-    let three_fields = Header {
-        src: ip(198, 51, 100, 7),
-        ..secure(ip(203, 0, 113, 5))
-    };
-    let cases = [
-        arriving(
-            "out of the other interface",
-            Plan::TwoLinks,
-            at(0, 0),
-            to_link,
-        ),
-        arriving("for the device itself", Plan::TwoLinks, at(0, 0), to_router),
-        arriving(
-            "one of two choices is stopped",
-            Plan::StoppedChoice,
-            at(0, 0),
-            to_choices,
-        ),
-        arriving(
-            "the source is translated",
-            Plan::TranslatedTwice,
-            at(0, 0),
-            inside,
-        ),
-        arriving("and back", Plan::TranslatedTwice, at(1, 0), global),
-        arriving(
-            "a source that the list denies",
-            Plan::TranslatedTwice,
-            at(0, 0),
-            denied,
-        ),
-        arriving("the end is shut down", Plan::ShutEnd, at(0, 0), to_link),
-        arriving(
-            "the destination is translated",
-            Plan::Office,
-            at(0, 1),
-            served,
-        ),
-        arriving("no such place", Plan::Office, at(7, 0), served),
-        arriving(
-            "to the next address of the destination that came",
-            Plan::OuterLan,
-            at(0, 0),
-            on_lan,
-        ),
-        arriving(
-            "the list sees the destination that leaves",
-            Plan::OuterLan,
-            at(0, 0),
-            beyond,
-        ),
-        arriving(
-            "no route for the destination that would leave",
-            Plan::OuterLan,
-            at(0, 0),
-            as_it_is,
-        ),
-        arriving(
-            "source and destination are translated",
-            Plan::OuterLan,
-            at(0, 1),
-            three_fields,
-        ),
-    ];
-    for case in &cases {
+    show_all(rt, &stopped_cases())?;
+    show_all(rt, &translated_cases())?;
+    show_all(rt, &office_cases())?;
+    show_all(rt, &outer_cases())
+}
+
+fn show_all(rt: &HostRuntime, cases: &[Case]) -> io::Result<()> {
+    for case in cases {
         let name = case.name;
         println!(rt; "{name}:")?;
         show_case(rt, case)?;
     }
     Ok(())
+}
+
+// Where nothing is translated.
+fn stopped_cases() -> [Case; 3] {
+    let host = ip(10, 0, 0, 9);
+    let to_link = web(host, ip(10, 0, 1, 2));
+    let to_router = web(host, ip(10, 0, 1, 1));
+    let to_choices = web(host, ip(192, 168, 0, 7));
+    let start = at(0, 0);
+    [
+        arriving("out of the other interface", Plan::TwoLinks, start, to_link),
+        arriving("for the device itself", Plan::TwoLinks, start, to_router),
+        arriving(
+            "one of two choices is stopped",
+            Plan::StoppedChoice,
+            start,
+            to_choices,
+        ),
+    ]
+}
+
+fn translated_cases() -> [Case; 4] {
+    let inside = web(ip(10, 0, 0, 5), ip(10, 9, 0, 2));
+    let global = web(ip(203, 0, 113, 5), ip(10, 9, 0, 2));
+    let denied = web(ip(10, 0, 1, 5), ip(10, 9, 0, 2));
+    let to_link = web(ip(10, 0, 0, 9), ip(10, 0, 1, 2));
+    let twice = Plan::TranslatedTwice;
+    [
+        arriving("the source is translated", twice, at(0, 0), inside),
+        arriving("and back", twice, at(1, 0), global),
+        arriving("a source that the list denies", twice, at(0, 0), denied),
+        arriving("the end is shut down", Plan::ShutEnd, at(0, 0), to_link),
+    ]
+}
+
+fn office_cases() -> [Case; 2] {
+    let served = secure(ip(198, 51, 100, 2));
+    let office = Plan::Office;
+    [
+        arriving("the destination is translated", office, at(0, 1), served),
+        arriving("no such place", office, at(7, 0), served),
+    ]
+}
+
+// Where hosts outside are known by other addresses.
+fn outer_cases() -> [Case; 4] {
+    let host = ip(10, 0, 0, 9);
+    let outer = Plan::OuterLan;
+    [
+        arriving(
+            "to the next address of the destination that came",
+            outer,
+            at(0, 0),
+            web(host, ip(10, 0, 5, 2)),
+        ),
+        arriving(
+            "the list sees the destination that leaves",
+            outer,
+            at(0, 0),
+            web(host, ip(10, 8, 0, 7)),
+        ),
+        arriving(
+            "no route for the destination that would leave",
+            outer,
+            at(0, 0),
+            web(host, ip(198, 51, 100, 7)),
+        ),
+        arriving(
+            "source and destination are translated",
+            outer,
+            at(0, 1),
+            Header {
+                src: ip(198, 51, 100, 7),
+                ..secure(ip(203, 0, 113, 5))
+            },
+        ),
+    ]
 }
 
 fn show_case(rt: &HostRuntime, case: &Case) -> io::Result<()> {

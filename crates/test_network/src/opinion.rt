@@ -30,7 +30,9 @@ const OPEN: [u128; 6] = [
 /// What was found.
 #[derive(Clone, Copy)]
 pub(crate) struct Counted {
-    /// Headers of which an answer is another one than the second opinion.
+    /// Headers that were asked.
+    pub(crate) asked: u32,
+    /// Those of which an answer is another one than the second opinion.
     pub(crate) wrong: u32,
     /// Cubes of more than one header with one answer, or sets of no header.
     pub(crate) noted: u32,
@@ -38,17 +40,23 @@ pub(crate) struct Counted {
 
 impl Counted {
     pub(crate) fn none() -> Counted {
-        Counted { wrong: 0, noted: 0 }
+        Counted {
+            asked: 0,
+            wrong: 0,
+            noted: 0,
+        }
     }
 
     pub(crate) fn with(&self, other: &Counted) -> Counted {
         Counted {
+            asked: self.asked.saturating_add(other.asked),
             wrong: self.wrong.saturating_add(other.wrong),
             noted: self.noted.saturating_add(other.noted),
         }
     }
 
     fn add(&mut self, right: bool) {
+        self.asked = self.asked.saturating_add(1);
         self.wrong = self.wrong.saturating_add(u32::from(!right));
     }
 

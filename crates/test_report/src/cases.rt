@@ -22,113 +22,115 @@ fn names_of(alloc: Global, words: &[&str]) -> Result<Names, NoMemory> {
     })
 }
 
-/// Texts, each with what it is.
+/// Texts of reports, each with what it is.
+const REPORTS: [(&str, &str); 27] = [
+    (
+        "two routers",
+        "ingress R1 Ethernet0 rows 1\ndst 000010100000100100000000000000*0 src 10.0.0.5 proto * dport * sport * flags *\nold exit R2 Ethernet1\nnew exit R2 Ethernet1 src 203.0.113.5\naffected 1\n",
+    ),
+    ("no section", "affected 0\n"),
+    (
+        "a section without rows",
+        "ingress R1 Ethernet0 rows 0\naffected 0\n",
+    ),
+    (
+        "without the last line",
+        "ingress R1 Ethernet0 rows 1\ndst 000010100000100100000000000000*0 src 10.0.0.5 proto * dport * sport * flags *\nold exit R2 Ethernet1\nnew exit R2 Ethernet1 src 203.0.113.5\n",
+    ),
+    (
+        "without the last line end",
+        "ingress R1 Ethernet0 rows 1\ndst 000010100000100100000000000000*0 src 10.0.0.5 proto * dport * sport * flags *\nold exit R2 Ethernet1\nnew exit R2 Ethernet1 src 203.0.113.5\naffected 1",
+    ),
+    ("nothing", ""),
+    (
+        "bytes behind the last line",
+        "ingress R1 Ethernet0 rows 1\ndst 000010100000100100000000000000*0 src 10.0.0.5 proto * dport * sport * flags *\nold exit R2 Ethernet1\nnew exit R2 Ethernet1 src 203.0.113.5\naffected 1\n\n",
+    ),
+    (
+        "a wrong count of rows",
+        "ingress R1 Ethernet0 rows 2\ndst 000010100000100100000000000000*0 src 10.0.0.5 proto * dport * sport * flags *\nold exit R2 Ethernet1\nnew exit R2 Ethernet1 src 203.0.113.5\naffected 1\n",
+    ),
+    (
+        "a wrong sum",
+        "ingress R1 Ethernet0 rows 1\ndst 000010100000100100000000000000*0 src 10.0.0.5 proto * dport * sport * flags *\nold exit R2 Ethernet1\nnew exit R2 Ethernet1 src 203.0.113.5\naffected 2\n",
+    ),
+    (
+        "a zero in front of a count",
+        "ingress R1 Ethernet0 rows 01\ndst 000010100000100100000000000000*0 src 10.0.0.5 proto * dport * sport * flags *\nold exit R2 Ethernet1\nnew exit R2 Ethernet1 src 203.0.113.5\naffected 1\n",
+    ),
+    (
+        "a zero in front of an octet",
+        "ingress R1 Ethernet0 rows 1\ndst 000010100000100100000000000000*0 src 010.0.0.5 proto * dport * sport * flags *\nold exit R2 Ethernet1\nnew exit R2 Ethernet1 src 203.0.113.5\naffected 1\n",
+    ),
+    (
+        "a carriage return",
+        "ingress R1 Ethernet0 rows 1\ndst 000010100000100100000000000000*0 src 10.0.0.5 proto * dport * sport * flags *\nold exit R2 Ethernet1\r\nnew exit R2 Ethernet1 src 203.0.113.5\naffected 1\n",
+    ),
+    (
+        "two blanks",
+        "ingress R1 Ethernet0 rows 1\ndst 000010100000100100000000000000*0 src 10.0.0.5 proto * dport * sport * flags *\nold  exit R2 Ethernet1\nnew exit R2 Ethernet1 src 203.0.113.5\naffected 1\n",
+    ),
+    (
+        "a blank at the end of a line",
+        "ingress R1 Ethernet0 rows 1\ndst 000010100000100100000000000000*0 src 10.0.0.5 proto * dport * sport * flags *\nold exit R2 Ethernet1 \nnew exit R2 Ethernet1 src 203.0.113.5\naffected 1\n",
+    ),
+    (
+        "the lines of a row in another order",
+        "ingress R1 Ethernet0 rows 1\ndst 000010100000100100000000000000*0 src 10.0.0.5 proto * dport * sport * flags *\nnew exit R2 Ethernet1 src 203.0.113.5\nold exit R2 Ethernet1\naffected 1\n",
+    ),
+    (
+        "a section twice",
+        "ingress R1 Ethernet0 rows 1\ndst 000010100000100100000000000000*0 src 10.0.0.5 proto * dport * sport * flags *\nold exit R2 Ethernet1\nnew exit R2 Ethernet1 src 203.0.113.5\ningress R1 Ethernet0 rows 1\ndst 000010100000100100000000000000*0 src 10.0.0.5 proto * dport * sport * flags *\nold exit R2 Ethernet1\nnew exit R2 Ethernet1 src 203.0.113.5\naffected 1\n",
+    ),
+    (
+        "a section twice with its sum",
+        "ingress R1 Ethernet0 rows 1\ndst 000010100000100100000000000000*0 src 10.0.0.5 proto * dport * sport * flags *\nold exit R2 Ethernet1\nnew exit R2 Ethernet1 src 203.0.113.5\ningress R1 Ethernet0 rows 1\ndst 000010100000100100000000000000*0 src 10.0.0.5 proto * dport * sport * flags *\nold exit R2 Ethernet1\nnew exit R2 Ethernet1 src 203.0.113.5\naffected 2\n",
+    ),
+    (
+        "a name that isn't there",
+        "ingress R1 Ethernet0 rows 1\ndst 000010100000100100000000000000*0 src 10.0.0.5 proto * dport * sport * flags *\nold exit R3 Ethernet1\nnew exit R2 Ethernet1 src 203.0.113.5\naffected 1\n",
+    ),
+    (
+        "each kind of outcome",
+        "ingress R1 Ethernet0 rows 1\ndst * src * proto 6 dport 80 sport * flags ***0*1**\nold drop | expired | local R1 Ethernet0 | exit R2 src src 10.0.0.1 dst 10.0.0.2 sport 1 dport 65535\nnew local R1 Ethernet1\naffected 1\n",
+    ),
+    (
+        "outcomes in another order",
+        "ingress R1 Ethernet0 rows 1\ndst * src * proto 6 dport 80 sport * flags *\nold expired | drop\nnew drop\naffected 1\n",
+    ),
+    (
+        "an outcome twice",
+        "ingress R1 Ethernet0 rows 1\ndst * src * proto 6 dport 80 sport * flags *\nold drop | drop\nnew expired\naffected 1\n",
+    ),
+    (
+        "changes in another order",
+        "ingress R1 Ethernet0 rows 1\ndst 000010100000100100000000000000*0 src 10.0.0.5 proto * dport * sport * flags *\nold exit R2 Ethernet1\nnew exit R2 Ethernet1 sport 1 src 203.0.113.5\naffected 1\n",
+    ),
+    (
+        "a port that is too great",
+        "ingress R1 Ethernet0 rows 1\ndst 000010100000100100000000000000*0 src 10.0.0.5 proto * dport * sport * flags *\nold exit R2 Ethernet1\nnew exit R2 Ethernet1 sport 65536\naffected 1\n",
+    ),
+    (
+        "a label without outcomes",
+        "ingress R1 Ethernet0 rows 1\ndst 000010100000100100000000000000*0 src 10.0.0.5 proto * dport * sport * flags *\nold \nnew exit R2 Ethernet1 src 203.0.113.5\naffected 1\n",
+    ),
+    (
+        "a prefix with bits behind it",
+        "ingress R1 Ethernet0 rows 1\ndst 10.0.0.1/24 src 10.0.0.5 proto * dport * sport * flags *\nold exit R2 Ethernet1\nnew exit R2 Ethernet1 src 203.0.113.5\naffected 1\n",
+    ),
+    (
+        "a prefix in ternary digits",
+        "ingress R1 Ethernet0 rows 1\ndst 0000101000000000000000000000000* src 10.0.0.5 proto * dport * sport * flags *\nold exit R2 Ethernet1\nnew exit R2 Ethernet1 src 203.0.113.5\naffected 1\n",
+    ),
+    (
+        "two rows",
+        "ingress R1 Ethernet0 rows 2\ndst 000010100000100100000000000000*0 src 10.0.0.5 proto * dport * sport * flags *\nold exit R2 Ethernet1\nnew exit R2 Ethernet1 src 203.0.113.5\ndst 10.0.0.0/8 src * proto * dport * sport * flags *\nold drop\nnew expired\naffected 2\n",
+    ),
+];
+
+/// Prints for each text the rows of its sections, or that it is no report.
 fn show_reports(rt: &HostRuntime, names: &Names) -> Result<(), Stop> {
-    let cases = [
-        (
-            "two routers",
-            "ingress R1 Ethernet0 rows 1\ndst 000010100000100100000000000000*0 src 10.0.0.5 proto * dport * sport * flags *\nold exit R2 Ethernet1\nnew exit R2 Ethernet1 src 203.0.113.5\naffected 1\n",
-        ),
-        ("no section", "affected 0\n"),
-        (
-            "a section without rows",
-            "ingress R1 Ethernet0 rows 0\naffected 0\n",
-        ),
-        (
-            "without the last line",
-            "ingress R1 Ethernet0 rows 1\ndst 000010100000100100000000000000*0 src 10.0.0.5 proto * dport * sport * flags *\nold exit R2 Ethernet1\nnew exit R2 Ethernet1 src 203.0.113.5\n",
-        ),
-        (
-            "without the last line end",
-            "ingress R1 Ethernet0 rows 1\ndst 000010100000100100000000000000*0 src 10.0.0.5 proto * dport * sport * flags *\nold exit R2 Ethernet1\nnew exit R2 Ethernet1 src 203.0.113.5\naffected 1",
-        ),
-        ("nothing", ""),
-        (
-            "bytes behind the last line",
-            "ingress R1 Ethernet0 rows 1\ndst 000010100000100100000000000000*0 src 10.0.0.5 proto * dport * sport * flags *\nold exit R2 Ethernet1\nnew exit R2 Ethernet1 src 203.0.113.5\naffected 1\n\n",
-        ),
-        (
-            "a wrong count of rows",
-            "ingress R1 Ethernet0 rows 2\ndst 000010100000100100000000000000*0 src 10.0.0.5 proto * dport * sport * flags *\nold exit R2 Ethernet1\nnew exit R2 Ethernet1 src 203.0.113.5\naffected 1\n",
-        ),
-        (
-            "a wrong sum",
-            "ingress R1 Ethernet0 rows 1\ndst 000010100000100100000000000000*0 src 10.0.0.5 proto * dport * sport * flags *\nold exit R2 Ethernet1\nnew exit R2 Ethernet1 src 203.0.113.5\naffected 2\n",
-        ),
-        (
-            "a zero in front of a count",
-            "ingress R1 Ethernet0 rows 01\ndst 000010100000100100000000000000*0 src 10.0.0.5 proto * dport * sport * flags *\nold exit R2 Ethernet1\nnew exit R2 Ethernet1 src 203.0.113.5\naffected 1\n",
-        ),
-        (
-            "a zero in front of an octet",
-            "ingress R1 Ethernet0 rows 1\ndst 000010100000100100000000000000*0 src 010.0.0.5 proto * dport * sport * flags *\nold exit R2 Ethernet1\nnew exit R2 Ethernet1 src 203.0.113.5\naffected 1\n",
-        ),
-        (
-            "a carriage return",
-            "ingress R1 Ethernet0 rows 1\ndst 000010100000100100000000000000*0 src 10.0.0.5 proto * dport * sport * flags *\nold exit R2 Ethernet1\r\nnew exit R2 Ethernet1 src 203.0.113.5\naffected 1\n",
-        ),
-        (
-            "two blanks",
-            "ingress R1 Ethernet0 rows 1\ndst 000010100000100100000000000000*0 src 10.0.0.5 proto * dport * sport * flags *\nold  exit R2 Ethernet1\nnew exit R2 Ethernet1 src 203.0.113.5\naffected 1\n",
-        ),
-        (
-            "a blank at the end of a line",
-            "ingress R1 Ethernet0 rows 1\ndst 000010100000100100000000000000*0 src 10.0.0.5 proto * dport * sport * flags *\nold exit R2 Ethernet1 \nnew exit R2 Ethernet1 src 203.0.113.5\naffected 1\n",
-        ),
-        (
-            "the lines of a row in another order",
-            "ingress R1 Ethernet0 rows 1\ndst 000010100000100100000000000000*0 src 10.0.0.5 proto * dport * sport * flags *\nnew exit R2 Ethernet1 src 203.0.113.5\nold exit R2 Ethernet1\naffected 1\n",
-        ),
-        (
-            "a section twice",
-            "ingress R1 Ethernet0 rows 1\ndst 000010100000100100000000000000*0 src 10.0.0.5 proto * dport * sport * flags *\nold exit R2 Ethernet1\nnew exit R2 Ethernet1 src 203.0.113.5\ningress R1 Ethernet0 rows 1\ndst 000010100000100100000000000000*0 src 10.0.0.5 proto * dport * sport * flags *\nold exit R2 Ethernet1\nnew exit R2 Ethernet1 src 203.0.113.5\naffected 1\n",
-        ),
-        (
-            "a section twice with its sum",
-            "ingress R1 Ethernet0 rows 1\ndst 000010100000100100000000000000*0 src 10.0.0.5 proto * dport * sport * flags *\nold exit R2 Ethernet1\nnew exit R2 Ethernet1 src 203.0.113.5\ningress R1 Ethernet0 rows 1\ndst 000010100000100100000000000000*0 src 10.0.0.5 proto * dport * sport * flags *\nold exit R2 Ethernet1\nnew exit R2 Ethernet1 src 203.0.113.5\naffected 2\n",
-        ),
-        (
-            "a name that isn't there",
-            "ingress R1 Ethernet0 rows 1\ndst 000010100000100100000000000000*0 src 10.0.0.5 proto * dport * sport * flags *\nold exit R3 Ethernet1\nnew exit R2 Ethernet1 src 203.0.113.5\naffected 1\n",
-        ),
-        (
-            "each kind of outcome",
-            "ingress R1 Ethernet0 rows 1\ndst * src * proto 6 dport 80 sport * flags ***0*1**\nold drop | expired | local R1 Ethernet0 | exit R2 src src 10.0.0.1 dst 10.0.0.2 sport 1 dport 65535\nnew local R1 Ethernet1\naffected 1\n",
-        ),
-        (
-            "outcomes in another order",
-            "ingress R1 Ethernet0 rows 1\ndst * src * proto 6 dport 80 sport * flags *\nold expired | drop\nnew drop\naffected 1\n",
-        ),
-        (
-            "an outcome twice",
-            "ingress R1 Ethernet0 rows 1\ndst * src * proto 6 dport 80 sport * flags *\nold drop | drop\nnew expired\naffected 1\n",
-        ),
-        (
-            "changes in another order",
-            "ingress R1 Ethernet0 rows 1\ndst 000010100000100100000000000000*0 src 10.0.0.5 proto * dport * sport * flags *\nold exit R2 Ethernet1\nnew exit R2 Ethernet1 sport 1 src 203.0.113.5\naffected 1\n",
-        ),
-        (
-            "a port that is too great",
-            "ingress R1 Ethernet0 rows 1\ndst 000010100000100100000000000000*0 src 10.0.0.5 proto * dport * sport * flags *\nold exit R2 Ethernet1\nnew exit R2 Ethernet1 sport 65536\naffected 1\n",
-        ),
-        (
-            "a label without outcomes",
-            "ingress R1 Ethernet0 rows 1\ndst 000010100000100100000000000000*0 src 10.0.0.5 proto * dport * sport * flags *\nold \nnew exit R2 Ethernet1 src 203.0.113.5\naffected 1\n",
-        ),
-        (
-            "a prefix with bits behind it",
-            "ingress R1 Ethernet0 rows 1\ndst 10.0.0.1/24 src 10.0.0.5 proto * dport * sport * flags *\nold exit R2 Ethernet1\nnew exit R2 Ethernet1 src 203.0.113.5\naffected 1\n",
-        ),
-        (
-            "a prefix in ternary digits",
-            "ingress R1 Ethernet0 rows 1\ndst 0000101000000000000000000000000* src 10.0.0.5 proto * dport * sport * flags *\nold exit R2 Ethernet1\nnew exit R2 Ethernet1 src 203.0.113.5\naffected 1\n",
-        ),
-        (
-            "two rows",
-            "ingress R1 Ethernet0 rows 2\ndst 000010100000100100000000000000*0 src 10.0.0.5 proto * dport * sport * flags *\nold exit R2 Ethernet1\nnew exit R2 Ethernet1 src 203.0.113.5\ndst 10.0.0.0/8 src * proto * dport * sport * flags *\nold drop\nnew expired\naffected 2\n",
-        ),
-    ];
-    for (case, text) in cases {
+    for (case, text) in REPORTS {
         print!(rt; "{case}: ")?;
         show_report(rt, names, text.as_bytes())?;
     }
@@ -157,43 +159,45 @@ fn show_sections(rt: &HostRuntime, sections: &[Section]) -> Result<(), Stop> {
     Ok(())
 }
 
-/// Words, each with the field as which it is read.
+/// Words, each with the number of a field.
+const FIELDS: [(&str, u8); 32] = [
+    ("10.0.1.0/24", 0),
+    ("2*", 3),
+    ("*", 0),
+    ("*", 5),
+    ("10.0.0.1", 1),
+    ("255.255.255.255", 0),
+    ("10.0.0.1/24", 0),
+    ("10.0.0.0/32", 0),
+    ("0.0.0.0/0", 0),
+    ("010.0.0.1", 0),
+    ("10.0.0", 0),
+    ("10.0.0.1.", 0),
+    ("256.0.0.0", 0),
+    ("10.0.0.0/08", 0),
+    ("0000101000001001000000000000000*", 0),
+    ("000010100000100100000000000000*0", 0),
+    ("6", 2),
+    ("06", 2),
+    ("256", 2),
+    ("80", 3),
+    ("080", 3),
+    ("65535", 4),
+    ("65536", 4),
+    ("***0*1**", 5),
+    ("00000010", 5),
+    ("********", 5),
+    ("***0*1*", 5),
+    ("***0*2**", 5),
+    ("", 0),
+    ("", 2),
+    ("6", 6),
+    ("*", 255),
+];
+
+/// Prints for each word the field as which it is read.
 fn show_fields(rt: &HostRuntime) -> Result<(), Stop> {
-    let cases: [(&str, u8); 32] = [
-        ("10.0.1.0/24", 0),
-        ("2*", 3),
-        ("*", 0),
-        ("*", 5),
-        ("10.0.0.1", 1),
-        ("255.255.255.255", 0),
-        ("10.0.0.1/24", 0),
-        ("10.0.0.0/32", 0),
-        ("0.0.0.0/0", 0),
-        ("010.0.0.1", 0),
-        ("10.0.0", 0),
-        ("10.0.0.1.", 0),
-        ("256.0.0.0", 0),
-        ("10.0.0.0/08", 0),
-        ("0000101000001001000000000000000*", 0),
-        ("000010100000100100000000000000*0", 0),
-        ("6", 2),
-        ("06", 2),
-        ("256", 2),
-        ("80", 3),
-        ("080", 3),
-        ("65535", 4),
-        ("65536", 4),
-        ("***0*1**", 5),
-        ("00000010", 5),
-        ("********", 5),
-        ("***0*1*", 5),
-        ("***0*2**", 5),
-        ("", 0),
-        ("", 2),
-        ("6", 6),
-        ("*", 255),
-    ];
-    for (word, field) in cases {
+    for (word, field) in FIELDS {
         match read_field(word.as_bytes(), field) {
             Some((fixed, bits)) => println!(rt; "field {field} {word}: {fixed} {bits}")?,
             None => println!(rt; "field {field} {word}: none")?,

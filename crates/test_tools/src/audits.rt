@@ -1,0 +1,96 @@
+//! Audits of a folder of two devices.
+
+use crate::runs::{Program, ROOM, show_run};
+use crate::stop::Stop;
+use net_io::MemFiles;
+use std::alloc::Global;
+
+// The second entry is dead by the first one, and the last one redundant, since the end of a list denies.
+const LISTS: &[u8] = b"hostname R1
+ip access-list extended A
+ permit tcp any host 10.0.0.1 eq 80
+ permit tcp host 10.0.0.7 host 10.0.0.1 eq 80
+ deny udp any any
+";
+
+const CLEAN: &[u8] = b"hostname R2
+access-list 7 permit host 10.0.0.1
+";
+
+const AUDIT: [&str; 2] = ["audit", "net"];
+
+fn network(alloc: Global, first: &[u8]) -> Result<MemFiles, Stop> {
+    let mut files = MemFiles::new(alloc)?;
+    files.folder("net")?;
+    files.put("net/R1.cfg", first)?;
+    files.put("net/R2.cfg", CLEAN)?;
+    Ok(files)
+}
+
+pub(crate) fn show(rt: &HostRuntime) -> Result<(), Stop> {
+    show_words(rt)?;
+    show_texts(rt)?;
+    show_rooms(rt)?;
+    show_faults(rt)
+}
+
+fn show_words(rt: &HostRuntime) -> Result<(), Stop> {
+    println!(rt; "== words of an audit")?;
+    let cases: [&[&str]; 6] = [
+        &[],
+        &["audit"],
+        &["audit", ""],
+        &["audit", "net", "net"],
+        &["read", "net"],
+        &["audit", "none"],
+    ];
+    let mut files = network(rt.alloc(), LISTS)?;
+    for words in cases {
+        show_run(rt, Program::Rollout, &mut files, words, ROOM)?;
+    }
+    Ok(())
+}
+
+// Findings, none, a command that isn't covered, and no hostname.
+fn show_texts(rt: &HostRuntime) -> Result<(), Stop> {
+    println!(rt; "== texts that are audited")?;
+    let cases: [&[u8]; 4] = [
+        LISTS,
+        b"hostname R1\n",
+        b"hostname R1\nrouter ospf 1\n",
+        b"!\n",
+    ];
+    for first in cases {
+        let mut files = network(rt.alloc(), first)?;
+        show_run(rt, Program::Rollout, &mut files, &AUDIT, ROOM)?;
+    }
+    println!(rt; "== a byte at each read")?;
+    let mut files = network(rt.alloc(), b"hostname R1\n")?;
+    files.at_most(1);
+    show_run(rt, Program::Rollout, &mut files, &AUDIT, ROOM)?;
+    println!(rt; "== a file of 16777217 bytes")?;
+    let long = vec![in rt.alloc(); b'!'; 16_777_217]?;
+    let mut files = network(rt.alloc(), &long)?;
+    show_run(rt, Program::Rollout, &mut files, &AUDIT, ROOM)
+}
+
+// The text of the clean folder has 44 bytes.
+fn show_rooms(rt: &HostRuntime) -> Result<(), Stop> {
+    println!(rt; "== an output with little room")?;
+    let mut files = network(rt.alloc(), b"hostname R1\n")?;
+    for room in [0, 10, 43, 44] {
+        show_run(rt, Program::Rollout, &mut files, &AUDIT, room)?;
+    }
+    Ok(())
+}
+
+// The calls are a listing, and two reads of each file.
+fn show_faults(rt: &HostRuntime) -> Result<(), Stop> {
+    println!(rt; "== a call on the files fails")?;
+    for call in 0..6 {
+        let mut files = network(rt.alloc(), b"hostname R1\n")?;
+        files.fail_at(call);
+        show_run(rt, Program::Rollout, &mut files, &AUDIT, ROOM)?;
+    }
+    Ok(())
+}

@@ -1,0 +1,25 @@
+//! The programs `rollout` and `view` as they are run, over files and outputs in memory: what they write, what they refuse, and
+//! what they answer where files or outputs fail. What each case must give follows from the rules, and stands in the file
+//! `stdout` beside this folder.
+#![tactic(auto)]
+
+mod audits;
+mod runs;
+mod stop;
+mod views;
+
+use crate::stop::Stop;
+use std::io;
+
+fn show_all(rt: &HostRuntime) -> Result<(), Stop> {
+    audits::show(rt)?;
+    views::show(rt)
+}
+
+fn main(rt: HostRuntime) -> io::Result<()> {
+    match show_all(&rt) {
+        Ok(()) => Ok(()),
+        Err(Stop::NoMemory) => println!(rt; "no memory"),
+        Err(Stop::Output { error }) => Err(error),
+    }
+}

@@ -1,0 +1,75 @@
+//! Runs of both programs over files in memory.
+
+use crate::stop::Stop;
+use audit_core::audit_run;
+use net_io::{MemFiles, MemSink};
+use std::alloc::{AllocError, Global};
+use std::io::Write;
+use view_core::view_run;
+
+/// Which program is run.
+#[derive(Clone, Copy)]
+pub(crate) enum Program {
+    Rollout,
+    View,
+}
+
+/// Enough room for what each case writes.
+pub(crate) const ROOM: usize = 100_000;
+
+fn strings(alloc: Global, words: &[&str]) -> Result<Vec<String>, AllocError> {
+    let mut given = Vec::new(alloc);
+    for word in words {
+        given.push(word.to_string(alloc)?)?;
+    }
+    Ok(given)
+}
+
+/// What a run gave: its status, and what was written.
+#[derive(Drop)]
+pub(crate) struct Finished {
+    pub(crate) status: u8,
+    pub(crate) out: MemSink,
+    pub(crate) err: MemSink,
+}
+
+/// Runs the program with these words where the output has so much room.
+pub(crate) fn ran(
+    alloc: Global,
+    program: Program,
+    files: &mut MemFiles,
+    words: &[&str],
+    room: usize,
+) -> Result<Finished, Stop> {
+    let words = strings(alloc, words)?;
+    let mut out = MemSink::new(alloc, room)?;
+    let mut err = MemSink::new(alloc, 1000)?;
+    let status = match program {
+        Program::Rollout => audit_run(alloc, &words, files, &mut out, &mut err),
+        Program::View => view_run(alloc, &words, files, &mut out, &mut err),
+    };
+    Ok(Finished { status, out, err })
+}
+
+/// Runs it and shows the words, the status, and what was written.
+pub(crate) fn show_run(
+    rt: &HostRuntime,
+    program: Program,
+    files: &mut MemFiles,
+    words: &[&str],
+    room: usize,
+) -> Result<(), Stop> {
+    let ran = ran(rt.alloc(), program, files, words, room)?;
+    println!(rt; "{words:?}: status {}", ran.status)?;
+    show_lines(rt, ran.out.taken())?;
+    show_lines(rt, ran.err.taken())
+}
+
+/// Bytes as they are, with the end of their last line.
+fn show_lines(rt: &HostRuntime, bytes: &[u8]) -> Result<(), Stop> {
+    rt.stdout().write_all(bytes)?;
+    if !bytes.is_empty() && !bytes.ends_with(b"\n") {
+        println!(rt; "")?;
+    }
+    Ok(())
+}

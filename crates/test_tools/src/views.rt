@@ -1,0 +1,120 @@
+//! Reports that are shown.
+
+use crate::runs::{Program, ROOM, ran, show_run};
+use crate::stop::Stop;
+use net_io::MemFiles;
+use std::alloc::Global;
+
+const REPORT: &[u8] = b"ingress R1 Ethernet0 rows 2
+dst 10.0.1.5 src * proto 6 dport 81 sport * flags *
+old drop
+new exit R1 Ethernet1
+dst 10.0.1.5 src * proto 6 dport 90 sport * flags *
+old drop
+new exit R1 Ethernet1
+affected 2
+";
+
+const LINKS: &[u8] = b"ingress R1 Ethernet0\n";
+
+fn texts(alloc: Global, report: &[u8]) -> Result<MemFiles, Stop> {
+    let mut files = MemFiles::new(alloc)?;
+    files.put("report", report)?;
+    files.put("links", LINKS)?;
+    files.put("wrong", b"! the second line is none\ntouch R1 Ethernet0\n")?;
+    Ok(files)
+}
+
+pub(crate) fn show(rt: &HostRuntime) -> Result<(), Stop> {
+    show_words(rt)?;
+    show_reports(rt)?;
+    show_page(rt)?;
+    show_rooms(rt)?;
+    show_faults(rt)
+}
+
+fn show_words(rt: &HostRuntime) -> Result<(), Stop> {
+    println!(rt; "== words of a view")?;
+    let cases: [&[&str]; 7] = [
+        &[],
+        &["--html"],
+        &["report", "links"],
+        &["--text", "report"],
+        &["none"],
+        &["--html", "report", "none"],
+        &["--html", "report", "wrong"],
+    ];
+    let mut files = texts(rt.alloc(), REPORT)?;
+    for words in cases {
+        show_run(rt, Program::View, &mut files, words, ROOM)?;
+    }
+    Ok(())
+}
+
+// A report, one without a row, and texts that are none: a count that is wrong, a name of two words, no end, nothing.
+fn show_reports(rt: &HostRuntime) -> Result<(), Stop> {
+    println!(rt; "== reports that are shown")?;
+    let cases: [&[u8]; 6] = [
+        REPORT,
+        b"ingress R1 Ethernet0 rows 0\naffected 0\n",
+        b"ingress R1 Ethernet0 rows 0\naffected 1\n",
+        b"ingress R1 of Ethernet0 rows 0\naffected 0\n",
+        b"ingress R1 Ethernet0 rows 0\naffected 0",
+        b"",
+    ];
+    for report in cases {
+        let mut files = texts(rt.alloc(), report)?;
+        show_run(rt, Program::View, &mut files, &["report"], ROOM)?;
+    }
+    println!(rt; "== a byte at each read")?;
+    let mut files = texts(rt.alloc(), REPORT)?;
+    files.at_most(1);
+    show_run(rt, Program::View, &mut files, &["report"], ROOM)?;
+    println!(rt; "== a file of 16777217 bytes")?;
+    let long = vec![in rt.alloc(); b'!'; 16_777_217]?;
+    let mut files = texts(rt.alloc(), &long)?;
+    show_run(rt, Program::View, &mut files, &["report"], ROOM)
+}
+
+// Of a page its beginning and its end.
+fn show_page(rt: &HostRuntime) -> Result<(), Stop> {
+    let mut files = texts(rt.alloc(), REPORT)?;
+    for words in [
+        &["--html", "report"][..],
+        &["--html", "report", "links"][..],
+    ] {
+        let ran = ran(rt.alloc(), Program::View, &mut files, words, ROOM)?;
+        let text = ran.out.taken();
+        let begins = text.starts_with(b"<!doctype html>\n");
+        let ends = text.ends_with(b"</html>\n");
+        let status = ran.status;
+        println!(rt; "{words:?}: status {status}, a page: {begins}, whole: {ends}")?;
+    }
+    Ok(())
+}
+
+fn show_rooms(rt: &HostRuntime) -> Result<(), Stop> {
+    println!(rt; "== an output with little room")?;
+    let mut files = texts(rt.alloc(), REPORT)?;
+    for room in [0, 36] {
+        show_run(rt, Program::View, &mut files, &["report"], room)?;
+    }
+    Ok(())
+}
+
+// The calls are two reads of each file.
+fn show_faults(rt: &HostRuntime) -> Result<(), Stop> {
+    println!(rt; "== a call on the files fails")?;
+    for call in 0..4 {
+        let mut files = texts(rt.alloc(), REPORT)?;
+        files.fail_at(call);
+        show_run(
+            rt,
+            Program::View,
+            &mut files,
+            &["--html", "report", "links"],
+            0,
+        )?;
+    }
+    Ok(())
+}
