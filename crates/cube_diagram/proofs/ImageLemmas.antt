@@ -74,6 +74,7 @@ with_picked t m s known k a =
       without = s.without;
       merged = s.merged;
       picked = picked_more t.table.nodes.items known t.picked.slots.items m.slots.items k s.picked a;
+      entries = s.entries;
     }
 
 -- the image of a part tests a bit behind that of the number

@@ -2,6 +2,7 @@ pub mod NodeLemmas
 pub mod ChainLemmas
 pub mod CombineLemmas
 pub mod EntryLemmas
+pub mod EntryMemoLemmas
 pub mod BitLemmas
 pub mod DescentLemmas
 pub mod ReachLemmas

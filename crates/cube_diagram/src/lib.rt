@@ -14,6 +14,7 @@ mod descent;
 mod destinations;
 mod diagrams;
 mod entry;
+mod entry_memo;
 mod exact;
 mod least;
 mod memo;

@@ -6,7 +6,7 @@ use crate::header::{Header, unpack};
 /// isn't `*`. It always holds a header.
 ///
 /// Bit `k` has the weight of a header's bit `k`, 2 to the `111 - k`.
-#[derive(Clone, Copy, PartialEq, Eq, Debug)]
+#[derive(Clone, Copy, PartialEq, Eq, Hash, Debug)]
 pub struct Cube {
     /// The bits that aren't `*`, below 2 to the 112.
     pub fixed: u128,

@@ -110,3 +110,11 @@ returns-clause-known t c =
     let r = c.in_ok-result in
     let w = written_step d0 d1 d2 d3 k c.args.id x.bit x.low x.high a.a b.b r.result c.requires.sound.reduced (c.node_at.ensures ∙ ap Some x.is) a.ensures.grows b.ensures.grows r.ensures.grows (bit_zero k.fixed x.bit c.is_one_at.result c.is_one_at.ensures c.if-is_one_at.false) a.ensures.written b.ensures.written r.ensures.by in
     written_inserted d3 k (get nat_eq c.written-3.new.known) (get nat_eq c.insert.new.self) c.args.id r.result c.in_ok-insert.ensures.updates.0 (all_written_grows d2 d3 k (get nat_eq c.written-3.new.known) r.ensures.grows b.ensures.known) w
+
+pub returns-clause-grows : goal.returns-clause-grows
+returns-clause-grows t c =
+    let d0 = c.args.tables.now.table.nodes.items in
+    let d1 = c.written-2.new.tables.table.nodes.items in
+    let d2 = c.written-3.new.tables.table.nodes.items in
+    let d3 = c.split.new.tables.table.nodes.items in
+    extends_then d0 d2 d3 (extends_then d0 d1 d2 c.in_ok-a.ensures.grows c.in_ok-b.ensures.grows) c.in_ok-result.ensures.grows
