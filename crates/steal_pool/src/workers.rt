@@ -20,8 +20,14 @@ use std::thread;
 use std::thread::Threads;
 use task_board::{Board, Leaf};
 
-// How many regions can be pushed to all lanes. Those that find no room are left to the calling thread.
-const CAPACITY: usize = 65_536;
+// How many regions can be pushed to all lanes, where there are few roots. Those that find no room are left to the calling thread.
+const CAPACITY: usize = 16_384;
+
+// How many for each root, where there are many.
+const CAPACITY_OF_ROOT: usize = 4;
+
+// The most that a lane takes.
+const MOST_IN_LANE: usize = 1 << 20;
 
 // How many to the lane of one worker. The calling thread works on those that are left no later than it would.
 const CAPACITY_ALONE: usize = 1024;
@@ -91,24 +97,25 @@ fn crowd(alloc: Global, first: Thief, count: usize) -> Result<Vec<Thief>, NoMemo
     Ok(thieves)
 }
 
-// How many regions can be pushed to each of so many lanes.
-fn capacity_of(lanes: usize) -> usize
+// How many regions can be pushed to each of so many lanes. A lane is made whole, with a lock in each cell, before anything is pushed.
+fn capacity_of(lanes: usize, roots: usize) -> usize
     ensures { (1 ≤ result) × (result ≤ 1048576) }
 {
     if lanes < 2 {
         return CAPACITY_ALONE;
     }
-    (CAPACITY / lanes.max(4)).max(1)
+    let all = roots.saturating_mul(CAPACITY_OF_ROOT).max(CAPACITY);
+    (all / lanes.max(4)).max(1).min(MOST_IN_LANE)
 }
 
-// A seat for each worker.
-fn seats(alloc: Global, count: usize) -> Result<Vec<Seat>, NoMemory>
+// A seat for each worker, with room for so many roots in their lanes.
+fn seats(alloc: Global, count: usize, roots: usize) -> Result<Vec<Seat>, NoMemory>
     ensures { IfOk result (λ v. vec_len v ≡ count) }
 {
     let mut seats = Vec::new(alloc);
     let mut crowds = Vec::new(alloc);
     for number in 0..count {
-        let (owner, first) = lane(alloc, capacity_of(count))?;
+        let (owner, first) = lane(alloc, capacity_of(count, roots))?;
         seats.push(Seat {
             owner,
             thieves: Vec::new(alloc),
@@ -190,7 +197,7 @@ fn run_as<
 {
     let plan: Plan<S, K> = Plan::of(splitter);
     let board = Board::open_all(alloc, CallMeaning::new(), roots)?;
-    let mut seats = seats(alloc, workers as usize)?;
+    let mut seats = seats(alloc, workers as usize, roots.len())?;
     let tasks = hand_out(&board, seats.as_mut_slice());
     let pool = Pool::of(board, tasks);
     let shared = &pool;
