@@ -6,7 +6,7 @@ ghost use Rattle.list_tables.specs.Made.{AreKnown};
 use crate::known::{KnownLists, known_of};
 use crate::lists::BothDevices;
 use crate::shares::made_by_workers;
-use crate::wanted::{WantedList, wanted_lists};
+use crate::wanted::{WantedList, have_one_worker, wanted_lists};
 use net_forms::Prepared;
 use net_types::NoMemory;
 use net_view::WorldRef;
@@ -33,8 +33,7 @@ pub fn prepared_by_workers<'a, R: Threads + Sync>(
         new: new.network.devices.as_slice(),
     };
     let wanted = wanted_lists(alloc, both, workers)?;
-    // One list alone is made no sooner by another worker.
-    if wanted.len() < 2 {
+    if have_one_worker(&wanted) {
         return Prepared::of(alloc, old, new);
     }
     let known = known_by_workers(rt, alloc, both, &wanted, workers)?;

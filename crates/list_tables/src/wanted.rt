@@ -102,7 +102,12 @@ fn is_name(named: &Option<Text>, name: &Text) -> bool {
     }
 }
 
-// Each worker has lists that stand together, and about as many entries as any other.
+/// Whether one worker makes them all.
+pub(crate) fn have_one_worker(wanted: &[WantedList]) -> bool {
+    wanted.iter().all(|w| w.worker == 0)
+}
+
+// Each worker has lists that stand together, and about as many entries as any other. One worker has both versions of a list.
 fn share_out(wanted: &mut [WantedList], workers: usize) {
     let mut all: usize = 0;
     for list in 0..wanted.len() {
@@ -113,9 +118,17 @@ fn share_out(wanted: &mut [WantedList], workers: usize) {
     for list in 0..wanted.len() {
         wanted[list].worker = worker;
         entries = entries.saturating_add(wanted[list].entries);
-        if entries.saturating_mul(workers) >= all {
+        if entries.saturating_mul(workers) >= all && is_last_version(wanted, list) {
             worker = worker.saturating_add(1);
             entries = 0;
         }
+    }
+}
+
+// Whether the next one, if there is one, is another list and no other version of this one.
+fn is_last_version(wanted: &[WantedList], list: usize) -> bool {
+    match (wanted.get(list), wanted.get(list.saturating_add(1))) {
+        (Some(one), Some(next)) => one.name != next.name || one.at.list != next.at.list,
+        _ => true,
     }
 }

@@ -263,7 +263,7 @@ fn sections_named<K: Pairing + Base + Send + Sync, G: Gate + Sync, R: Threads + 
     Ok(sections)
 }
 
-// The rows of each ingress. One worker walks in the table itself, several in copies.
+// The rows of each ingress. One who walks alone walks in the table itself, several in copies.
 fn rows_of<K: Pairing + Base + Send + Sync, G: Gate + Sync, R: Threads + Wait + Sync>(
     rt: &R,
     alloc: Global,
@@ -277,8 +277,8 @@ fn rows_of<K: Pairing + Base + Send + Sync, G: Gate + Sync, R: Threads + Wait + 
     requires base { K.base ≡ table }
     ensures { IfOk result (λ all. AreRowsOfSlots K.gives (length compared.now) all.items) }
 {
-    if workers == 1 {
-        return rows_alone(rt, alloc, table, compared, gate);
+    if workers == 1 || compared.count() < 2 {
+        return rows_alone(rt, alloc, table, compared, workers, gate);
     }
     rows_shared(rt, alloc, &table, compared, workers, gate)
 }
@@ -288,14 +288,16 @@ fn rows_alone<K: Pairing + Base + Send + Sync, G: Gate + Sync, R: Threads + Wait
     alloc: Global,
     table: Diagrams,
     compared: &Compared<K>,
+    workers: u32,
     gate: &G,
 ) -> Result<Vec<SlotRows>, NoMemory>
     requires few { length compared.now < 2 ^ 32 }
+    requires workers { (1 ≤ workers) × (workers ≤ 64) }
     requires base { K.base ≡ table }
     ensures { IfOk result (λ all. AreRowsOfSlots K.gives (length compared.now) all.items) }
 {
     let twins: Twins<K> = Twins::of(alloc, table)?;
-    let all = rows_in(rt, alloc, None, &twins, compared, 1, gate)?;
+    let all = rows_in(rt, alloc, None, &twins, compared, workers, gate)?;
     Ok(all)
 }
 
