@@ -10,7 +10,6 @@ pub mod RowOrder
 pub mod CanonicalRows
 pub mod RowLaws
 pub mod LikeFunctions
-pub mod OneList
 pub mod NodeRows
 pub mod OneRowOf
 pub mod NodeSteps

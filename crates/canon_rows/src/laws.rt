@@ -1,7 +1,7 @@
 //! What follows from the definition of a row, for each function that gives headers values.
 //!
 //! Each law is the contract of a function that does nothing. A proof takes its lemma, from `RowLaws`,
-//! `OneList`, `LikeFunctions` or `CanonicalRows` of this crate's proofs.
+//! `LikeFunctions` or `CanonicalRows` of this crate's proofs, or from `OneList` of hdr_bits'.
 
 ghost use Rattle.std.specs.Prelude.{◌≡◌, ◌<◌, ◌^◌, ◌↔◌, ℕ, List, ◌∷◌, Option, Some, None, IsSome, All, AllPairs};
 ghost use Rattle.hdr_bits.specs.declared.cube.Cube.{Cube};

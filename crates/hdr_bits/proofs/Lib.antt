@@ -2,3 +2,4 @@ pub mod Numbers
 pub mod Masks
 pub mod CubeLemmas
 pub mod ListLemmas
+pub mod OneList

@@ -1,4 +1,4 @@
-use Rattle.canon_rows.proofs.OneList.{rows_are_one_list}
+use Rattle.hdr_bits.proofs.OneList.{rows_are_one_list}
 use Rattle.canon_rows.proofs.laws.rows_are_one_list.Goals as goal
 
 pub returns : goal.returns

@@ -1,5 +1,5 @@
 use Rattle.canon_rows.proofs.RowLaws.{rows_are_constant, rows_are_disjoint, rows_cover}
-use Rattle.canon_rows.proofs.OneList.{rows_are_one_list}
+use Rattle.hdr_bits.proofs.OneList.{rows_are_one_list}
 use Rattle.net_types.specs.Report.{affected}
 use Rattle.net_types.proofs.LabelLaws.{pair_decided}
 use Rattle.net_compare.proofs.laws.rows_are_of_affected.Goals as goal
