@@ -13,3 +13,6 @@ pub mod LabelLaws
 pub mod HopOrder
 pub mod Checks
 pub mod QuestionLaws
+pub mod SameWalks
+pub mod OneEdit
+pub mod Unvisited

@@ -7,3 +7,6 @@ pub mod Order
 pub mod Walks
 pub mod Report
 pub mod Questions
+pub mod Visits
+pub mod SameWalks
+pub mod Edits

@@ -18,6 +18,9 @@ ghost use Rattle.net_types.specs.World.{World};
 ghost use Rattle.net_types.specs.Moves.{moves};
 ghost use Rattle.net_types.specs.Order.{in_order, outcome_cmp, IsLabel};
 ghost use Rattle.net_types.specs.Walks.{IsWalk, states_after, End, IsEnd, ends, end_of, outcome_of, state_at, SameEnds, HasEnd, label};
+ghost use Rattle.net_types.specs.Visits.{Visits};
+ghost use Rattle.net_types.specs.SameWalks.{SameWalksUnder};
+ghost use Rattle.net_types.specs.Edits.{DiffersOnlyAt, AreEdited};
 ghost use Rattle.net_types.specs.Report.{same_label, affected};
 ghost use Rattle.net_types.specs.Questions.{IsAnswer, Reaches, Loops, HasOutcomeAt};
 
@@ -86,4 +89,23 @@ pub fn reaches_by_label()
 pub fn loops_last()
     ensures walks { (w : World) (t : ℕ) (p : Place) (h : Header) → Loops w t p h → (n : ℕ) → (u : State) × IsWalk w n (state_at p h) u }
     ensures longer { (w : World) (t s : ℕ) (p : Place) (h : Header) → t ≤ s → Loops w t p h → Loops w s p h }
+{}
+
+/// A header that walks alike in two networks has the same label in both, loops in both or in neither, and visits the same
+/// devices, under each TTL up to the one for which it does.
+pub fn same_walks_tell()
+    ensures labels { (old new : World) (t : ℕ) (p : Place) (h : Header) → SameWalksUnder old new t p h → (s : ℕ) → s ≤ t → label old s p h ≡ label new s p h }
+    ensures loops { (old new : World) (t : ℕ) (p : Place) (h : Header) → SameWalksUnder old new t p h → (s : ℕ) → s ≤ t → Loops old s p h ↔ Loops new s p h }
+    ensures visits { (old new : World) (t : ℕ) (p : Place) (h : Header) → SameWalksUnder old new t p h → (s : ℕ) → s ≤ t → (device : ℕ) → Visits old s p h device ↔ Visits new s p h device }
+{}
+
+/// A header that doesn't visit the one device in which two networks differ walks alike in both.
+pub fn unvisited_walks_stay()
+    ensures { (old new : World) (device : ℕ) → DiffersOnlyAt old new device → (t : ℕ) (p : Place) (h : Header) → (Visits old t p h device → ⊥) → SameWalksUnder old new t p h }
+{}
+
+/// Two networks with the same links differ only in the device of a name, where their devices are the same one for one, but
+/// for those of that name, which have the same interfaces.
+pub fn edited_differs_there_only()
+    ensures { (old new : World) (device : ℕ) → old.links ≡ new.links → AreEdited device old.network.devices new.network.devices → DiffersOnlyAt old new device }
 {}

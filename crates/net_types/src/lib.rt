@@ -2,7 +2,8 @@
 //!
 //! The rules are definitions of `specs/`: access lists in `AccessLists`, static routes in `Routes`, static address
 //! translation in `Translation`, a network and its links in `World`, what a device does with a packet in `Moves`, the walks
-//! of a packet and its label in `Walks`, the order of outcomes in `Order`, the report in `Report`,
+//! of a packet and its label in `Walks`, the devices that it visits in `Visits`, headers that walk alike in two networks in
+//! `SameWalks`, networks that differ in one device in `Edits`, the order of outcomes in `Order`, the report in `Report`,
 //! and questions in `Questions`.
 #![tactic(auto)]
 
