@@ -15,3 +15,7 @@ pub mod PathLemmas
 pub mod PairedLemmas
 pub mod TrieLemmas
 pub mod DestinationLemmas
+pub mod ValueSetLemmas
+pub mod ByValueLemmas
+pub mod ValuesTold
+pub mod RowCountLemmas
