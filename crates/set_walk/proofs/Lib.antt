@@ -7,4 +7,6 @@ pub mod NetLemmas
 pub mod LevelLemmas
 pub mod EndLemmas
 pub mod WalkLemmas
+pub mod CircleLemmas
 pub mod NumberLemmas
+pub mod VisitorLemmas

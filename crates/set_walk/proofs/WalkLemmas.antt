@@ -113,10 +113,10 @@ labels_are w start f domain p t a all =
     }
 
 -- ---- no group is left
-last_or_before : (n m : ℕ) → n ≤ suc m → (n ≡ suc m) ⊎ (n ≤ m)
+pub last_or_before : (n m : ℕ) → n ≤ suc m → (n ≡ suc m) ⊎ (n ≤ m)
 last_or_before n m l = elim (eq-or-lt_of_le l) [ inl e ↦ inl e | inr b ↦ inr (omega (arith, b)) ]
 
-no_state : (w : World) (s : State) (n m : ℕ) → n ≤ m → ((u : State) → Contains (states_after w n s) u → ⊥) → (u : State) → Contains (states_after w m s) u → ⊥
+pub no_state : (w : World) (s : State) (n m : ℕ) → n ≤ m → ((u : State) → Contains (states_after w n s) u → ⊥) → (u : State) → Contains (states_after w m s) u → ⊥
 no_state w s n zero l none u c = let e : n ≡ 0 = omega (arith, l) in none u (subst (λ k. Contains (states_after w k s) u) (sym e) c)
 no_state w s n (suc m) l none u c =
     elim (last_or_before n m l) [
@@ -135,7 +135,7 @@ same_ends w s t n (suc m) l none e c =
       ]
     ]
 
-more_ends : (w : World) (s : State) (t n m : ℕ) → n ≤ m → (e : End) → Contains (ends_below w t s n) e → Contains (ends_below w t s m) e
+pub more_ends : (w : World) (s : State) (t n m : ℕ) → n ≤ m → (e : End) → Contains (ends_below w t s n) e → Contains (ends_below w t s m) e
 more_ends w s t n zero l e c = let q : n ≡ 0 = omega (arith, l) in subst (λ k. Contains (ends_below w t s k) e) q c
 more_ends w s t n (suc m) l e c =
     elim (last_or_before n m l) [

@@ -5,5 +5,7 @@ pub mod Ways
 pub mod Nets
 pub mod Told
 pub mod Levels
+pub mod Circles
 pub mod Outcomes
 pub mod Numbers
+pub mod Visits

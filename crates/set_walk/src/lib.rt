@@ -7,6 +7,7 @@
 //! for the headers of a scope, a set that no walk leaves, and only such headers are walked.
 #![tactic(auto)]
 
+mod circles;
 mod ends;
 mod fits;
 mod hash;
@@ -17,12 +18,17 @@ mod parts;
 pub mod sets;
 mod step;
 pub mod told;
+mod visit_walk;
+mod visits;
 mod walk;
 
+pub use circles::{Mark, later, same_groups};
 pub use ends::OutcomeSet;
 pub use fits::keeps_headers;
 pub use levels::{first_level, next_level};
 pub use net::{Net, PlaceWays, ways_at};
 pub use numbers::{LabelNumbers, OutcomeList, label_numbers};
 pub use step::{Step, Way, same_step};
+pub use visit_walk::{WalkedSets, labels_and_visitors};
+pub use visits::DeviceVisitors;
 pub use walk::labels;
