@@ -1,6 +1,6 @@
 -- The headers that loop: from levels to loops.
-use Rattle.std.proofs.Common.{ℕ, ◌≡◌, ◌≤◌, ◌<◌, ◌+◌, ◌-◌, ◌⊎◌, ◌↔◌, inl, inr, List, [], ◌∷◌, ◌++◌, Option, Some, None, length, refl, sym, ap, subst, ◌∙◌, arith}
-use Rattle.std.specs.Prelude.{IsNone}
+use Rattle.std.proofs.Common.{ℕ, zero, suc, ◌≡◌, ◌≤◌, ◌<◌, ◌+◌, ◌-◌, ◌⊎◌, ◌↔◌, inl, inr, List, [], ◌∷◌, ◌++◌, Option, Some, None, length, slice_get, refl, sym, ap, subst, ◌∙◌, arith}
+use Rattle.std.specs.Prelude.{IsNone, Contains}
 use Rattle.std.specs.Option.{unwrap_or}
 use Rattle.std.proofs.lemmas.Bool.{cases_lt}
 use Rattle.std.proofs.lemmas.Bool.Decides.{nat_tests}
@@ -18,7 +18,7 @@ use Rattle.net_types.specs.declared.network.Move.TheVariants.{Drop, Local, Lost,
 use Rattle.net_types.specs.declared.network.Place.{Place}
 use Rattle.net_types.specs.declared.network.State.{State}
 use Rattle.net_types.specs.World.{World}
-use Rattle.net_types.specs.Walks.{IsWalk, state_at}
+use Rattle.net_types.specs.Walks.{IsWalk, states_after, state_at}
 use Rattle.net_types.proofs.Walking.{walk_from_states, states_from_walk}
 use Rattle.set_walk.specs.declared.step.Step.{Step}
 use Rattle.set_walk.specs.declared.step.Step.TheVariants as step
@@ -27,9 +27,11 @@ use Rattle.set_walk.specs.Sets.{InSet, IsSetOf}
 use Rattle.set_walk.specs.Ways.{IsStamp, OfStamp, move_of}
 use Rattle.set_walk.specs.Told.{AreTold, IsNormal}
 use Rattle.set_walk.specs.Levels.{IsAt, IsLevel}
-use Rattle.set_walk.proofs.SetLemmas.{kept_set, in_or_not, cube_set, no_header}
+use Rattle.set_walk.proofs.SetLemmas.{kept_set, keeps_same, in_or_not, cube_set, no_header}
 use Rattle.set_walk.proofs.StampLemmas.{applied_fits}
+use Rattle.set_walk.specs.Circles.{SameStates, AllSame}
 use Rattle.set_walk.proofs.WalkLemmas.{level_kept}
+use Rattle.set_walk.proofs.CircleLemmas.{same_on, level_on}
 use Rattle.ask_query.specs.declared.looping.Level.{Level}
 use Rattle.net_types.specs.Questions.{Loops}
 use Rattle.ask_query.specs.Looping.{AreLevels, ByWay, GoesOn, IsBack, LoopsFrom, Returns, unchanged_at}
@@ -136,6 +138,29 @@ returns_next w f t0 t1 t2 domain p n groups old new k b level s t h v =
       ]),
     )
 
+-- where the states after n moves are those after fewer, a walk that comes back may be a round shorter, until it has at most n
+fewer_moves : (w : World) (s : State) (m n bound y : ℕ) → m < n → SameStates w s m n → y ≤ bound → 1 ≤ y → Contains (states_after w y s) s → Returns w n s
+fewer_moves w s m n zero y l same b a c = absurd (omega (arith, b, a))
+fewer_moves w s m n (suc bound) y l same b a c = elim (cases_lt n y) [
+  | inr d ↦ record { around = y; moves = a; within = d; again = walk_from_states w y s s c }
+  | inl d ↦
+      let z = m + (y - n) in
+      fewer_moves w s m n bound z l same (omega (arith, l, b, d)) (omega (arith, d)) ((same_on w s (y - n) m n z y refl (omega (arith, d)) same s).1 c)
+]
+
+-- so no further level has more headers that come back
+pub returns_round : (w : World) (f g : Functions) (domain set : ℕ) (p : Place) (m n room : ℕ) → m < n → n ≤ room → AllSame w f domain p m n → IsSetOf g set (λ h. InSet f domain h × Returns w n (state_at p h)) → IsSetOf g set (λ h. InSet f domain h × Returns w room (state_at p h))
+returns_round w f g domain set p m n room l r same e h v =
+    let s = state_at p h in (
+      λ i.
+          let x = (e h v).0 i in
+          let a = x.1.within in
+          (x.0, record { around = x.1.around; moves = x.1.moves; within = omega (arith, a, r); again = x.1.again }),
+      λ x.
+          let y = x.1.around in
+          (e h v).1 (x.0, fewer_moves w s m n y y l (same h v x.0) (omega arith) x.1.moves (states_from_walk w y s s x.1.again)),
+    )
+
 -- ---- levels
 pub levels_none : (w : World) (start f : Functions) (domain : ℕ) (p : Place) → AreLevels w start domain p f []
 levels_none w start f domain p n l e = absurd cc
@@ -147,6 +172,13 @@ levels_more w start f g domain p n levels l k c all one i x e = elim (got levels
       let at : n ≡ i = sym c ∙ sym b.0 in
       subst (λ m. IsLevel w start domain p m g x.groups.items) at (subst (λ y. IsLevel w start domain p n g y.groups.items) b.1 (level_kept w start f g domain p n l.groups.items k one))
 ]
+
+-- the level of a round later is the same
+pub round_more : (w : World) (start f : Functions) (domain : ℕ) (p : Place) (count round n : ℕ) (levels : List Level) (x l : Level) → length levels ≡ n → count ≤ n → round ≤ count → AllSame w start domain p (count - round) count → slice_get levels (n - round) ≡ Some x → l.groups.items ≡ x.groups.items → AreLevels w start domain p f levels → AreLevels w start domain p f (levels ++ l ∷ [])
+round_more w start f domain p count round n levels x l c b r same at e all =
+    let again : AllSame w start domain p (n - round) n = λ h v i. same_on w (state_at p h) (n - count) (count - round) count (n - round) n (omega (arith, b, r)) (omega (arith, b)) (same h v i) in
+    let one = level_on w start f domain p (n - round) n x.groups.items again (all (n - round) x at) in
+    levels_more w start f f domain p n levels l (keeps_same f) c all (subst (λ gs. IsLevel w start domain p n f gs) (sym e) one)
 
 pub levels_kept : (w : World) (start f g : Functions) (domain : ℕ) (p : Place) (levels : List Level) → Keeps f g → AreLevels w start domain p f levels → AreLevels w start domain p g levels
 levels_kept w start f g domain p levels k all n l e = level_kept w start f g domain p n l.groups.items k (all n l e)

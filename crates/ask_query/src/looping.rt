@@ -2,17 +2,20 @@
 //!
 //! The levels of the domain's walks are kept. From the last one back, where few moves are left, it is asked of each group
 //! which of its headers come back to its place unchanged. Headers that loop at all do so soon after the last levels, and
-//! what is found isn't asked again; what has no walk to the last level can't loop and isn't asked at all.
+//! what is found isn't asked again; what has no walk to the last level can't loop and isn't asked at all. Levels that come
+//! round are made once.
 
-ghost use Rattle.std.specs.Prelude.{◌≡◌, ◌≤◌, ◌<◌, ◌⊎◌, ℕ, Some, IfOk, IsTrue, length, slice_get};
+ghost use Rattle.std.specs.Prelude.{◌≡◌, ◌≤◌, ◌<◌, ◌⊎◌, ◌-◌, ℕ, Some, IfOk, IsTrue, length, slice_get};
 ghost use Rattle.hdr_bits.specs.declared.header.Header.{Header};
 ghost use Rattle.hdr_bits.specs.HeaderBits.{IsHeader};
 ghost use Rattle.cube_alg.specs.Stamps.{applied};
 ghost use Rattle.cube_diagram.specs.Functions.{Functions, Keeps, count_of};
 ghost use Rattle.net_types.specs.declared.network.Place.{Place};
+ghost use Rattle.net_types.specs.World.{World};
 ghost use Rattle.net_types.specs.Walks.{state_at};
 ghost use Rattle.net_view.specs.Borrowed.{world_of};
 ghost use Rattle.set_walk.specs.declared.step.Way.{Way};
+ghost use Rattle.set_walk.specs.Circles.{AllSame};
 ghost use Rattle.set_walk.specs.Sets.{InSet, IsSetOf};
 ghost use Rattle.set_walk.specs.Ways.{IsStamp};
 ghost use Rattle.set_walk.specs.Told.{AreTold, IsTold};
@@ -26,13 +29,30 @@ use cube_diagram::Diagrams;
 use hdr_bits::Cube;
 use net_types::{NoMemory, Place};
 use set_walk::sets::{before_stamp, both, either, without};
-use set_walk::{Net, Step, Way, first_level, next_level, same_step};
+use set_walk::{Mark, Net, Step, Way, first_level, later, next_level, same_groups, same_step};
 use std::alloc::Global;
 
 /// The groups of a level.
 #[derive(Drop)]
 pub struct Level {
     pub groups: Vec<Way>,
+}
+
+/// Where a search for loops stands.
+#[derive(Clone, Copy)]
+struct Search {
+    /// The headers that have a walk to the last level.
+    lasting: u32,
+    /// Those that were found to loop.
+    found: u32,
+}
+
+/// Headers that come to a place; the stamp makes of each the header that arrives.
+#[derive(Clone, Copy)]
+struct Arrivals {
+    place: Place,
+    stamp: Stamp,
+    headers: u32,
 }
 
 /// The headers of the domain, a set of the table, that enter at the place and loop under the TTL.
@@ -73,12 +93,58 @@ fn levels_of(
 {
     let mut levels = Vec::new(alloc);
     let mut groups = first_level(alloc, table, place, domain)?;
-    for _ in 0..ttl {
+    let mut mark = 0;
+    for n in 0..ttl {
         let steps = next_level(alloc, table, net, &groups)?;
         levels.push(Level { groups })?;
         groups = steps;
+        mark = later_mark(mark, n);
+        if same_groups(&levels[usize::from(mark)].groups, &groups) {
+            let all = with_rounds(alloc, levels, n + 1 - mark, ttl)?;
+            return Ok(all);
+        }
     }
     Ok(levels)
+}
+
+// The level with which further ones are compared, of two: the second, where the first is of half as many moves or fewer.
+fn later_mark(mark: u8, n: u8) -> u8
+    requires { mark ≤ n }
+    ensures { result ≤ n }
+{
+    if n / 2 < mark {
+        return mark;
+    }
+    n
+}
+
+// The levels of walks that go round in circles, as many as the TTL has: each further one is that of so many moves before.
+fn with_rounds(
+    alloc: Global,
+    levels: Vec<Level>,
+    round: u8,
+    ttl: u8,
+) -> Result<Vec<Level>, NoMemory>
+    requires round { 1 ≤ round }
+    requires before { round ≤ length levels.items }
+    requires within { length levels.items ≤ ttl }
+    ensures count { IfOk result (λ r. length r.items ≡ ttl) }
+    ensures levels { IfOk result (λ r. (w : World) (start fs : Functions) (domain : ℕ) (p : Place) → AreLevels w start domain p fs levels.items → AllSame w start domain p (length levels.items - round) (length levels.items) → AreLevels w start domain p fs r.items) }
+{
+    let mut all = levels;
+    for n in all.len()..usize::from(ttl) {
+        let groups = copied(alloc, &all[n - usize::from(round)].groups)?;
+        all.push(Level { groups })?;
+    }
+    Ok(all)
+}
+
+fn copied(alloc: Global, groups: &[Way]) -> Result<Vec<Way>, NoMemory>
+    ensures { IfOk result (λ r. r.items ≡ groups.now) }
+{
+    let mut copy = Vec::new(alloc);
+    copy.extend_from_slice(groups)?;
+    Ok(copy)
 }
 
 // The headers that loop, by their levels.
@@ -102,7 +168,8 @@ fn looping_in(
     let mut found = table.nothing();
     for room in 0..ttl {
         let level = &levels[usize::from(ttl - 1 - room)];
-        found = with_returning_from(alloc, table, net, &level.groups, room, lasting, found)?;
+        let search = Search { lasting, found };
+        found = with_returning_from(alloc, table, net, &level.groups, room, search)?;
     }
     Ok(found)
 }
@@ -148,22 +215,22 @@ fn with_returning_from(
     net: &Net,
     groups: &[Way],
     room: u8,
-    lasting: u32,
-    found: u32,
+    search: Search,
 ) -> Result<u32, NoMemory>
     requires net { IsWholeNet table.old net.now }
     requires groups { AreTold table.old groups.now }
-    requires lasting { lasting < count_of table.old }
-    requires found { found < count_of table.old }
+    requires lasting { search.lasting < count_of table.old }
+    requires found { search.found < count_of table.old }
     ensures below { IfOk result (λ r. r < count_of table.new) }
-    ensures exact { IfOk result (λ r. IsSetOf table.new r (λ h. InSet table.old found h ⊎ ByWay table.old groups.now (λ m g. InSet table.old lasting g × IsBack (world_of net.now.world) room m g) h)) }
+    ensures exact { IfOk result (λ r. IsSetOf table.new r (λ h. InSet table.old search.found h ⊎ ByWay table.old groups.now (λ m g. InSet table.old search.lasting g × IsBack (world_of net.now.world) room m g) h)) }
     ensures kept { Keeps table.old table.new }
 {
-    let mut all = found;
+    let mut found = search.found;
     for group in groups {
-        all = with_returning(alloc, table, net, *group, room, lasting, all)?;
+        let so_far = Search { found, ..search };
+        found = with_returning(alloc, table, net, *group, room, so_far)?;
     }
-    Ok(all)
+    Ok(found)
 }
 
 // The same of one group; none come back by a step that doesn't go on.
@@ -173,56 +240,58 @@ fn with_returning(
     net: &Net,
     group: Way,
     room: u8,
-    lasting: u32,
-    found: u32,
+    search: Search,
 ) -> Result<u32, NoMemory>
     requires net { IsWholeNet table.old net.now }
     requires group { IsTold table.old group }
-    requires lasting { lasting < count_of table.old }
-    requires found { found < count_of table.old }
+    requires lasting { search.lasting < count_of table.old }
+    requires found { search.found < count_of table.old }
     ensures below { IfOk result (λ r. r < count_of table.new) }
-    ensures exact { IfOk result (λ r. IsSetOf table.new r (λ h. InSet table.old found h ⊎ (InSet table.old group.headers h × (InSet table.old lasting h × IsBack (world_of net.now.world) room group.step h)))) }
+    ensures exact { IfOk result (λ r. IsSetOf table.new r (λ h. InSet table.old search.found h ⊎ (InSet table.old group.headers h × (InSet table.old search.lasting h × IsBack (world_of net.now.world) room group.step h)))) }
     ensures kept { Keeps table.old table.new }
 {
     match group.step {
         Step::Go { place, stamp } => {
-            let asked = both(table, group.headers, lasting)?;
-            let rest = without(table, asked, found)?;
-            let back = returning_by(alloc, table, net, place, stamp, rest, room)?;
-            let all = either(table, found, back)?;
+            let asked = both(table, group.headers, search.lasting)?;
+            let rest = without(table, asked, search.found)?;
+            let arrivals = Arrivals {
+                place,
+                stamp,
+                headers: rest,
+            };
+            let back = returning_by(alloc, table, net, arrivals, room)?;
+            let all = either(table, search.found, back)?;
             Ok(all)
         }
-        Step::Drop => Ok(found),
-        Step::Local { place: _ } => Ok(found),
-        Step::Lost => Ok(found),
-        Step::Exit { place: _, stamp: _ } => Ok(found),
+        Step::Drop => Ok(search.found),
+        Step::Local { place: _ } => Ok(search.found),
+        Step::Lost => Ok(search.found),
+        Step::Exit { place: _, stamp: _ } => Ok(search.found),
     }
 }
 
-// Those of the headers that arrive at the place with the stamp and come back there so in at most so many moves.
+// Those of the headers that come back so to the place, after they arrived, in at most so many moves.
 fn returning_by(
     alloc: Global,
     table: &mut Diagrams,
     net: &Net,
-    place: Place,
-    stamp: Stamp,
-    headers: u32,
+    arrivals: Arrivals,
     room: u8,
 ) -> Result<u32, NoMemory>
     requires net { IsWholeNet table.old net.now }
-    requires headers { headers < count_of table.old }
-    requires stamp { IsStamp stamp }
+    requires headers { arrivals.headers < count_of table.old }
+    requires stamp { IsStamp arrivals.stamp }
     ensures below { IfOk result (λ r. r < count_of table.new) }
-    ensures exact { IfOk result (λ r. IsSetOf table.new r (λ h. InSet table.old headers h × Returns (world_of net.now.world) room (state_at place (applied stamp h)))) }
+    ensures exact { IfOk result (λ r. IsSetOf table.new r (λ h. InSet table.old arrivals.headers h × Returns (world_of net.now.world) room (state_at arrivals.place (applied arrivals.stamp h)))) }
     ensures kept { Keeps table.old table.new }
 {
-    if table.is_nothing(headers) {
-        return Ok(headers);
+    if table.is_nothing(arrivals.headers) {
+        return Ok(arrivals.headers);
     }
-    let arriving = arriving(table, &stamp, headers)?;
-    let back = returning(alloc, table, net, place, arriving, room)?;
-    let before = before_stamp(alloc, table, back, &stamp)?;
-    let set = both(table, headers, before)?;
+    let arriving = arriving(table, &arrivals.stamp, arrivals.headers)?;
+    let back = returning(alloc, table, net, arrivals.place, arriving, room)?;
+    let before = before_stamp(alloc, table, back, &arrivals.stamp)?;
+    let set = both(table, arrivals.headers, before)?;
     Ok(set)
 }
 
@@ -248,7 +317,8 @@ fn is_none(stamp: &Stamp) -> bool
     stamp.src.is_none() && stamp.dst.is_none() && stamp.sport.is_none() && stamp.dport.is_none()
 }
 
-// The headers of the domain that enter at the place and come back to it unchanged in at most so many moves.
+// The headers of the domain that enter at the place and come back to it unchanged in at most so many moves. Where a level comes
+// round, no further one has more of them.
 fn returning(
     alloc: Global,
     table: &mut Diagrams,
@@ -263,11 +333,19 @@ fn returning(
     ensures exact { IfOk result (λ r. IsSetOf table.new r (λ h. InSet table.old domain h × Returns (world_of net.now.world) room (state_at place h))) }
     ensures kept { Keeps table.old table.new }
 {
+    let mut mark = Mark {
+        moves: 0,
+        groups: first_level(alloc, table, place, domain)?,
+    };
     let mut groups = first_level(alloc, table, place, domain)?;
     let mut found = table.nothing();
-    for _ in 0..room {
+    for n in 0..room {
         let steps = next_level(alloc, table, net, &groups)?;
         found = with_unchanged(table, &steps, place, found)?;
+        mark = later(mark, n, groups);
+        if same_groups(&mark.groups, &steps) {
+            return Ok(found);
+        }
         groups = steps;
     }
     Ok(found)

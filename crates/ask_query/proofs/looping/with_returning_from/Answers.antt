@@ -18,7 +18,7 @@ loop-group-init c =
     record {
       kept = keeps_same f;
       below = c.requires.found;
-      exact = ways_none f (InSet f c.args.found) (λ m g. InSet f c.args.lasting g × IsBack w c.args.room m g) f c.args.found (same_set f c.args.found);
+      exact = ways_none f (InSet f c.args.search.found) (λ m g. InSet f c.args.search.lasting g × IsBack w c.args.room m g) f c.args.search.found (same_set f c.args.search.found);
     }
 
 pub with_returning-requires-clause-net : goal.with_returning-requires-clause-net
@@ -34,7 +34,7 @@ with_returning-requires-clause-group c =
     told_one_kept c.args.table.now c.loop-group.table x c.loop-group.invariant.kept (c.requires.groups x among)
 
 pub with_returning-requires-clause-lasting : goal.with_returning-requires-clause-lasting
-with_returning-requires-clause-lasting c = kept_below c.args.table.now c.loop-group.table c.args.lasting c.loop-group.invariant.kept c.requires.lasting
+with_returning-requires-clause-lasting c = kept_below c.args.table.now c.loop-group.table c.args.search.lasting c.loop-group.invariant.kept c.requires.lasting
 
 pub loop-group-preserved : goal.loop-group-preserved
 loop-group-preserved c =
@@ -46,12 +46,12 @@ loop-group-preserved c =
     let x : Way = get_or xs i (record { step = Drop; headers = 0 }) in
     let e = get_or_default xs i (record { step = Drop; headers = 0 }) x c.loop-group-test.true in
     let among = item_among xs i x c.loop-group-test.true e in
-    let made : IsSetOf c.with_returning.new.table c.in_ok-all.all (λ h. InSet g c.loop-group.all h ⊎ (InSet g x.headers h × (InSet g c.args.lasting h × IsBack w c.args.room x.step h))) = c.in_ok-all.ensures.exact in
+    let made : IsSetOf c.with_returning.new.table c.in_ok-found.found (λ h. InSet g c.loop-group.found h ⊎ (InSet g x.headers h × (InSet g c.args.search.lasting h × IsBack w c.args.room x.step h))) = c.in_ok-found.ensures.exact in
     record {
-      kept = keeps_then f g c.with_returning.new.table c.loop-group.invariant.kept c.in_ok-all.ensures.kept;
-      below = c.in_ok-all.ensures.below;
-      exact = ways_more f (InSet f c.args.found) (λ m h. InSet f c.args.lasting h × IsBack w c.args.room m h) g c.with_returning.new.table xs i x (λ m h. InSet g c.args.lasting h × IsBack w c.args.room m h) c.loop-group.all c.in_ok-all.all c.loop-group.invariant.kept (c.requires.groups x among).below c.loop-group-test.true e
-          (λ h v. let k = kept_set f g c.args.lasting h c.loop-group.invariant.kept c.requires.lasting in (λ y. (k.0 y.0, y.1), λ y. (k.1 y.0, y.1)))
+      kept = keeps_then f g c.with_returning.new.table c.loop-group.invariant.kept c.in_ok-found.ensures.kept;
+      below = c.in_ok-found.ensures.below;
+      exact = ways_more f (InSet f c.args.search.found) (λ m h. InSet f c.args.search.lasting h × IsBack w c.args.room m h) g c.with_returning.new.table xs i x (λ m h. InSet g c.args.search.lasting h × IsBack w c.args.room m h) c.loop-group.found c.in_ok-found.found c.loop-group.invariant.kept (c.requires.groups x among).below c.loop-group-test.true e
+          (λ h v. let k = kept_set f g c.args.search.lasting h c.loop-group.invariant.kept c.requires.lasting in (λ y. (k.0 y.0, y.1), λ y. (k.1 y.0, y.1)))
           c.loop-group.invariant.exact made;
     }
 
@@ -59,4 +59,4 @@ pub returns-clause-exact : goal.returns-clause-exact
 returns-clause-exact c =
     let f = c.args.table.now in
     let w = world_of c.args.net.now.world in
-    subst (λ xs. IsSetOf c.loop-group.table c.loop-group.all (λ h. InSet f c.args.found h ⊎ ByWay f xs (λ m g. InSet f c.args.lasting g × IsBack w c.args.room m g) h)) (take_all c.loop-group.group-index c.args.groups.now c.loop-group-test.false) c.loop-group.invariant.exact
+    subst (λ xs. IsSetOf c.loop-group.table c.loop-group.found (λ h. InSet f c.args.search.found h ⊎ ByWay f xs (λ m g. InSet f c.args.search.lasting g × IsBack w c.args.room m g) h)) (take_all c.loop-group.group-index c.args.groups.now c.loop-group-test.false) c.loop-group.invariant.exact

@@ -8,6 +8,6 @@ use Rattle.ask_query.proofs.looping.with_returning_from.Given as goal
 abbrev pub invariant-loop-group : goal.invariant-loop-group
 invariant-loop-group l = record {
   kept : Keeps l.fn.table l.table;
-  below : l.all < count_of l.table;
-  exact : IsSetOf l.table l.all (λ h. InSet l.fn.table l.fn.found h ⊎ ByWay l.fn.table (take l.group-index l.groups) (λ m g. InSet l.fn.table l.fn.lasting g × IsBack (world_of l.net.world) l.fn.room m g) h);
+  below : l.found < count_of l.table;
+  exact : IsSetOf l.table l.found (λ h. InSet l.fn.table l.fn.search.found h ⊎ ByWay l.fn.table (take l.group-index l.groups) (λ m g. InSet l.fn.table l.fn.search.lasting g × IsBack (world_of l.net.world) l.fn.room m g) h);
 }
