@@ -12,8 +12,10 @@ use Rattle.net_types.specs.declared.network.Place.{Place}
 use Rattle.net_types.specs.declared.network.State.{State}
 use Rattle.net_types.specs.World.{World, same_place}
 use Rattle.net_types.specs.Moves.{moves}
-use Rattle.net_types.specs.Walks.{IsWalk, SameEnds, state_at, label}
-use Rattle.net_types.proofs.LabelLaws.{labels_tell_ends}
+use Rattle.net_types.specs.Walks.{IsWalk, state_at, label}
+use Rattle.net_types.specs.SameWalks.{MovesAgree, SameWalksUnder}
+use Rattle.net_types.proofs.SameWalks.{labels_alike}
+use Rattle.net_types.proofs.Walking.{walk_from_states, states_from_walk}
 use Rattle.net_view.specs.Borrowed.{world_of}
 use Rattle.set_walk.specs.declared.net.Net.{Net}
 use Rattle.set_walk.specs.declared.net.PlaceWays.{PlaceWays}
@@ -25,7 +27,7 @@ use Rattle.set_walk.proofs.NetLemmas.{goes_as_header}
 use Rattle.set_walk.proofs.SetLemmas.{kept_set, kept_below, in_or_not}
 use Rattle.set_walk.proofs.StampLemmas.{go_step}
 use Rattle.difference_reach.specs.declared.reach.Reach.{Reach}
-use Rattle.difference_reach.specs.Differing.{MovesAgree, AreOwn}
+use Rattle.difference_reach.specs.Differing.{AreOwn}
 use Rattle.difference_reach.specs.Reaches.{MayMeet, AreUsed, AreGivenAt, AreSettled, GoesOnFreely, IsClosed, AreNumbers, IsReach}
 use Rattle.difference_reach.proofs.GrowLemmas.{sets_kept, meet_kept}
 use Rattle.difference_reach.proofs.SweepLemmas.{below_kept}
@@ -125,19 +127,20 @@ module _ (old new : World) (f : Functions) (scope : ℕ) (own at : Place → Opt
       let before = to_old n x e.0 a e.1 in
       (e.0, before, (same_there e.0 (walked n x e.0 a before) (move.Go y.place y.header)).1 e.2)
 
-  same_ends : (t : ℕ) (p : Place) (h : Header) → IsFree (state_at p h) → SameEnds old new t p h
-  same_ends t p h a e = (
-    λ x.
-        let b = walked x.count (state_at p h) x.state a x.walk in
-        record { count = x.count; within = x.within; state = x.state; walk = to_new x.count (state_at p h) x.state a x.walk; move = x.move; made = (same_there x.state b x.move).0 x.made; ends = x.ends },
-    λ x.
-        let w = to_old x.count (state_at p h) x.state a x.walk in
-        let b = walked x.count (state_at p h) x.state a w in
-        record { count = x.count; within = x.within; state = x.state; walk = w; move = x.move; made = (same_there x.state b x.move).1 x.made; ends = x.ends },
-  )
+  pub same_walks : (p : Place) (h : Header) → IsHeader h → (InSet f scope h → MayMeet f own at back p h → ⊥) → (t : ℕ) → SameWalksUnder old new t p h
+  same_walks p h v n t =
+      let s = state_at p h in
+      let free : IsFree s = record { valid = v; free = n } in
+      record {
+        states = λ k l u. (
+          λ m. states_from_walk new k s u (to_new k s u free (walk_from_states old k s u m)),
+          λ m. states_from_walk old k s u (to_old k s u free (walk_from_states new k s u m)),
+        );
+        moves = λ k l u m. same_there u (walked k s u free (walk_from_states old k s u m));
+      }
 
   pub untouched : (p : Place) (h : Header) → IsHeader h → (InSet f scope h → MayMeet f own at back p h → ⊥) → (t : ℕ) → label old t p h ≡ label new t p h
-  untouched p h v n t = (labels_tell_ends t p h old new).1 (same_ends t p h (record { valid = v; free = n }))
+  untouched p h v n t = labels_alike old new t p h (same_walks p h v n t) t (omega arith)
 
 -- ---- the table grows
 pub numbers_kept : (f g : Functions) (r : Reach) → Keeps f g → AreNumbers f r → AreNumbers g r

@@ -6,6 +6,7 @@ ghost use Rattle.hdr_bits.specs.HeaderBits.{IsHeader};
 ghost use Rattle.cube_diagram.specs.Functions.{Keeps, count_of};
 ghost use Rattle.net_types.specs.World.{World};
 ghost use Rattle.net_types.specs.Walks.{label};
+ghost use Rattle.net_types.specs.SameWalks.{SameWalksUnder};
 ghost use Rattle.net_view.specs.Borrowed.{world_of};
 ghost use Rattle.set_walk.specs.Scopes.{AreAlikeBeyond};
 ghost use Rattle.set_walk.specs.Sets.{InSet, IsWithin};
@@ -72,11 +73,13 @@ impl<'a> Reach<'a> {
     }
 
     /// The headers of the scope that may meet a difference of the two networks if they enter at the place: a set of the table.
-    /// Any other header has the same label in both, under every TTL, if the two networks are alike beyond the scope.
+    /// Any other header walks alike in both and has the same label, under every TTL, if the two networks are alike beyond the
+    /// scope.
     pub fn headers_at(&self, table: &mut Diagrams, place: Place) -> Result<u32, NoMemory>
         requires { AreNumbers table.old self.now }
         ensures below { IfOk result (λ r. r < count_of table.new) }
         ensures within { IfOk result (λ r. (old new : World) (scope : ℕ) → IsReach old new table.old scope self.now → IsWithin table.new r scope) }
+        ensures walks { IfOk result (λ r. (old new : World) (scope : ℕ) → IsReach old new table.old scope self.now → AreAlikeBeyond old new table.old scope → (h : Header) → IsHeader h → (InSet table.new r h → ⊥) → (t : ℕ) → SameWalksUnder old new t place h) }
         ensures equal { IfOk result (λ r. (old new : World) (scope : ℕ) → IsReach old new table.old scope self.now → AreAlikeBeyond old new table.old scope → (h : Header) → IsHeader h → (InSet table.new r h → ⊥) → (t : ℕ) → label old t place h ≡ label new t place h) }
         ensures kept { Keeps table.old table.new }
     {
