@@ -9,7 +9,7 @@ use Rattle.net_types.specs.declared.config.AccessList.{AccessList}
 use Rattle.net_types.specs.declared.config.Loaded.{Loaded}
 use Rattle.acl_audit.specs.declared.finding.Finding.{Finding}
 use Rattle.acl_audit.specs.Findings.{AreFindings}
-use Rattle.review_core.specs.declared.report.Report.{Report}
+use Rattle.job_core.specs.declared.report.Report.{Report}
 use Rattle.audit_core.specs.AuditText.{Audited, list_text, finding_count, findings_text, total_text}
 use Rattle.audit_core.specs.Audits.{Appends, IsAudit, IsRight, named, lists_in, lists_of}
 

@@ -1,18 +1,14 @@
 -- The audit of a network: what is written, over what the files tell alone.
-use Rattle.std.specs.Prelude.{◌≡◌, ℕ, ◌+◌, List, ◌++◌, Option, None, Some, Result, Ok, Err, All, map, nat_lt, length, option_map}
+use Rattle.std.specs.Prelude.{◌≡◌, ℕ, ◌+◌, List, ◌++◌, Option, None, Some, Result, All, map, nat_lt, length}
 use Rattle.std.specs.List.{flat_map}
 use Rattle.net_types.specs.declared.config.AccessList.{AccessList}
 use Rattle.net_types.specs.declared.config.Loaded.{Loaded}
 use Rattle.net_io.specs.Files.{Told}
-use Rattle.net_io.specs.Sink.{TookPrefix}
 use Rattle.acl_audit.specs.Findings.{AreFindings}
-use Rattle.review_core.specs.declared.report.Report.{Report}
-use Rattle.review_core.specs.declared.stop.Stop.{Stop}
-use Rattle.review_core.specs.declared.stop.Stop.TheVariants as stop
-use Rattle.review_core.specs.Steps.{Then, GivesFolder}
-use Rattle.review_core.specs.Stops.{status_of, line_of}
-use Rattle.review_core.specs.Accepted.{AcceptedFolder}
-use Rattle.review_core.specs.Job.{Said, status_of_report}
+use Rattle.job_core.specs.declared.report.Report.{Report}
+use Rattle.job_core.specs.declared.stop.Stop.{Stop}
+use Rattle.job_core.specs.Steps.{Then, OrNoMemory}
+use Rattle.job_inputs.specs.Folders.{GivesFolder, AcceptedFolder}
 use Rattle.audit_core.specs.AuditText.{Audited, list_text, finding_count, audit_text}
 use Rattle.audit_core.specs.Words.{net_of}
 
@@ -47,11 +43,6 @@ pub record Appends (lists : List (List ℕ × AccessList)) (old new : List ℕ) 
   pub text : new ≡ old ++ flat_map list_text audited
   pub count : now ≡ before + finding_count audited
 
--- what is written, or that there was no memory for it
-abbrev pub OrNoMemory : (Report → Type 0) → Result Report Stop → Type 0
-OrNoMemory Is (Ok r) = Is r
-OrNoMemory Is (Err s) = s ≡ stop.NoMemory
-
 -- the folder, and then the audit
 abbrev pub Audits : Told → List ℕ → Result Report Stop → Type 0
 Audits t net = Then (GivesFolder (λ devices. devices) t net) (λ devices. OrNoMemory (IsAudit devices))
@@ -71,17 +62,3 @@ AcceptedNet (Some net) t = AcceptedFolder t net
 
 abbrev pub IsAccepted : List (List ℕ) → Told → Type 0
 IsAccepted words t = AcceptedNet (net_of words) t
-
--- the output took the whole audit, behind what it took before, and the status says whether it has a finding
-abbrev pub Wrote : List (List ℕ) → Told → ℕ → Option (List ℕ) → Option (List ℕ) → Type 0
-Wrote words t status before now =
-    (r : Report) × Does words t (Ok r) × (status ≡ status_of_report r) × (now ≡ option_map (λ taken. taken ++ r.text.items) before)
-
--- the output took a prefix of the audit
-abbrev pub WrotePart : List (List ℕ) → Told → Option (List ℕ) → Option (List ℕ) → Type 0
-WrotePart words t before now = (r : Report) × Does words t (Ok r) × TookPrefix before r.text.items now
-
--- the first cause, with its line
-abbrev pub StoppedWith : List (List ℕ) → Told → ℕ → Option (List ℕ) → Option (List ℕ) → ℕ → ℕ → Type 0
-StoppedWith words t status before now faults_before faults_now =
-    (s : Stop) × Does words t (Err s) × (status ≡ status_of s) × Said (line_of s) before now faults_before faults_now

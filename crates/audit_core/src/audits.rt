@@ -1,12 +1,15 @@
+//! The audit of a folder: its lists with their findings, one behind the other.
 ghost use Rattle.std.specs.Prelude.{◌∷◌, [], IfOk, IfSome, map};
-ghost use Rattle.review_core.specs.Causes.{HasCause};
-ghost use Rattle.audit_core.specs.Audits.{Audits, IsAudit, Appends, OrNoMemory};
+ghost use Rattle.job_core.specs.Causes.{HasCause};
+ghost use Rattle.job_core.specs.Steps.{OrNoMemory};
+ghost use Rattle.audit_core.specs.Audits.{Audits, IsAudit, Appends};
 
 use crate::text::{append_findings, append_total};
 use acl_audit::audit;
+use job_core::{Report, Stop};
+use job_inputs::read_folder;
 use net_io::Files;
 use net_types::{AccessList, Loaded, NoMemory, Text};
-use review_core::{Report, Stop, read_folder};
 use std::alloc::Global;
 
 /// The findings of all access lists of a folder's configurations.

@@ -1,3 +1,5 @@
+//! How findings are written.
+
 ghost use Rattle.std.specs.Prelude.{◌≡◌, ◌++◌, OnOk, decimal, length, filter, not};
 ghost use Rattle.std.specs.List.{flat_map};
 ghost use Rattle.audit_core.specs.AuditText.{is_dead, kind_text, row_text, by_text, taken_text, entry_text, finding_text, name_text, kinds_text, findings_text, total_text};

@@ -1,4 +1,4 @@
 pub mod Numbers
 pub mod Words
-pub mod Commands
+pub mod Requests
 pub mod Parts

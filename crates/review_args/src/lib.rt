@@ -3,10 +3,10 @@
 //! The words are those after the program's name: a command, its positional words, and its options.
 #![tactic(auto)]
 
-mod command;
 mod numbers;
 mod parts;
 mod reader;
+mod request;
 
-pub use command::{Command, WordsFail};
 pub use reader::read_words;
+pub use request::{Asking, Comparison, Job, Packet, Request, Tracing, WordsFail};

@@ -1,32 +1,32 @@
-//! The command that the words ask for.
+//! The request that the words make.
 ghost use Rattle.std.specs.Prelude.{◌≡◌, ◌≤◌, option_and_then, IfOk, IfSome, None, Some, Err, map, string_bytes};
 ghost use Rattle.std.specs.List.{list_any};
 ghost use Rattle.review_args.specs.Words.{has_stray, positional, values};
-ghost use Rattle.review_args.specs.Commands.{Answers, AreWorkers, IsTtl, IsWithin, command_of, is_empty, named, option_number, workers_of, ttl_of, comparison, asking, tracing, reading, making, without};
+ghost use Rattle.review_args.specs.Requests.{Answers, AreWorkers, IsTtl, IsWithin, request_of, is_empty, named, option_number, workers_of, ttl_of, comparison, asking, tracing, reading, making, without};
 ghost use Rattle.review_args.specs.Parts.{texts};
 
 use crate::numbers::{header, long_number, number_within};
 use crate::parts::Parts;
-use crate::{Command, WordsFail};
+use crate::request::{Asking, Comparison, Job, Packet, Request, Tracing, WordsFail};
 use net_types::{NoMemory, Text, Word};
 use std::alloc::Global;
 
-/// The command that the words of the command line, without the program's name, ask for.
+/// What the words of the command line, without the program's name, ask for: the job, and by how many workers.
 ///
 /// Refused comes exactly where they are outside the usage: a command of another name, positional words that are not
 /// those of the command or are empty, an option that doesn't go with it, stands twice, lacks its value or has one out
 /// of range, another word that begins with `-` before the first `--`, or a number or header that is none. The numbers
-/// of a command that is answered are within their bounds.
-pub fn read_words(alloc: Global, words: &[String]) -> Result<Command, WordsFail>
-    ensures command { IfOk result (λ c. command_of (map string_bytes words.now) ≡ Some c) }
-    ensures refused { result ≡ Err WordsFail.Refused → command_of (map string_bytes words.now) ≡ None }
+/// of a request that is answered are within their bounds.
+pub fn read_words(alloc: Global, words: &[String]) -> Result<Request, WordsFail>
+    ensures request { IfOk result (λ r. request_of (map string_bytes words.now) ≡ Some r) }
+    ensures refused { result ≡ Err WordsFail.Refused → request_of (map string_bytes words.now) ≡ None }
     ensures within { IfOk result IsWithin }
 {
     read(alloc, words)
 }
 
-fn read(alloc: Global, words: &[String]) -> Result<Command, WordsFail>
-    ensures asked { Answers (command_of (map string_bytes words.now)) result }
+fn read(alloc: Global, words: &[String]) -> Result<Request, WordsFail>
+    ensures asked { Answers (request_of (map string_bytes words.now)) result }
     ensures within { IfOk result IsWithin }
 {
     let [name, rest @ ..] = words else {
@@ -59,8 +59,8 @@ fn is_empty(word: &str) -> bool
     word.is_empty()
 }
 
-// The command of this name.
-fn named(alloc: Global, name: &str, parts: &Parts) -> Result<Command, WordsFail>
+// The request of a command of this name.
+fn named(alloc: Global, name: &str, parts: &Parts) -> Result<Request, WordsFail>
     ensures asked { Answers (named name.now (texts parts.now.positional) (texts parts.now.workers) (texts parts.now.ttl)) result }
     ensures within { IfOk result IsWithin }
 {
@@ -111,7 +111,7 @@ fn ttl_of(parts: &Parts) -> Option<u8>
 }
 
 // `compare OLD NEW LINKS [NEWLINKS]`
-fn compare(alloc: Global, parts: &Parts) -> Result<Command, WordsFail>
+fn compare(alloc: Global, parts: &Parts) -> Result<Request, WordsFail>
     ensures asked { Answers (option_and_then (λ n. option_and_then (comparison (texts parts.now.positional) n) (ttl_of (texts parts.now.ttl))) (workers_of (texts parts.now.workers))) result }
     ensures within { IfOk result IsWithin }
 {
@@ -124,35 +124,39 @@ fn compare(alloc: Global, parts: &Parts) -> Result<Command, WordsFail>
     comparison(alloc, parts, workers, ttl)
 }
 
-fn comparison(alloc: Global, parts: &Parts, workers: u32, ttl: u8) -> Result<Command, WordsFail>
+fn comparison(alloc: Global, parts: &Parts, workers: u32, ttl: u8) -> Result<Request, WordsFail>
     requires workers { AreWorkers workers }
     requires ttl { IsTtl ttl }
     ensures asked { Answers (comparison (texts parts.now.positional) workers ttl) result }
     ensures within { IfOk result IsWithin }
 {
     match parts.positional.as_slice() {
-        [old, new, links] => Ok(Command::Compare {
-            old: word(alloc, old)?,
-            new: word(alloc, new)?,
-            links: word(alloc, links)?,
-            new_links: None,
+        [old, new, links] => Ok(Request {
+            job: Job::Compare(Comparison {
+                old: word(alloc, old)?,
+                new: word(alloc, new)?,
+                links: word(alloc, links)?,
+                new_links: None,
+                ttl,
+            }),
             workers,
-            ttl,
         }),
-        [old, new, links, new_links] => Ok(Command::Compare {
-            old: word(alloc, old)?,
-            new: word(alloc, new)?,
-            links: word(alloc, links)?,
-            new_links: Some(word(alloc, new_links)?),
+        [old, new, links, new_links] => Ok(Request {
+            job: Job::Compare(Comparison {
+                old: word(alloc, old)?,
+                new: word(alloc, new)?,
+                links: word(alloc, links)?,
+                new_links: Some(word(alloc, new_links)?),
+                ttl,
+            }),
             workers,
-            ttl,
         }),
         _ => Err(WordsFail::Refused),
     }
 }
 
 // `ask NET LINKS QUESTIONS`
-fn ask(alloc: Global, parts: &Parts) -> Result<Command, WordsFail>
+fn ask(alloc: Global, parts: &Parts) -> Result<Request, WordsFail>
     ensures asked { Answers (option_and_then (λ n. option_and_then (asking (texts parts.now.positional) n) (ttl_of (texts parts.now.ttl))) (workers_of (texts parts.now.workers))) result }
     ensures within { IfOk result IsWithin }
 {
@@ -165,17 +169,19 @@ fn ask(alloc: Global, parts: &Parts) -> Result<Command, WordsFail>
     let [net, links, questions] = parts.positional.as_slice() else {
         return Err(WordsFail::Refused);
     };
-    Ok(Command::Ask {
-        net: word(alloc, net)?,
-        links: word(alloc, links)?,
-        questions: word(alloc, questions)?,
+    Ok(Request {
+        job: Job::Ask(Asking {
+            net: word(alloc, net)?,
+            links: word(alloc, links)?,
+            questions: word(alloc, questions)?,
+            ttl,
+        }),
         workers,
-        ttl,
     })
 }
 
 // `trace NET LINKS DEVICE INTERFACE HEADER`
-fn trace(alloc: Global, parts: &Parts) -> Result<Command, WordsFail>
+fn trace(alloc: Global, parts: &Parts) -> Result<Request, WordsFail>
     ensures asked { Answers (without (texts parts.now.workers) (option_and_then (tracing (texts parts.now.positional)) (ttl_of (texts parts.now.ttl)))) result }
     ensures within { IfOk result IsWithin }
 {
@@ -185,7 +191,7 @@ fn trace(alloc: Global, parts: &Parts) -> Result<Command, WordsFail>
     trace_within(alloc, parts)
 }
 
-fn trace_within(alloc: Global, parts: &Parts) -> Result<Command, WordsFail>
+fn trace_within(alloc: Global, parts: &Parts) -> Result<Request, WordsFail>
     ensures asked { Answers (option_and_then (tracing (texts parts.now.positional)) (ttl_of (texts parts.now.ttl))) result }
     ensures within { IfOk result IsWithin }
 {
@@ -195,7 +201,7 @@ fn trace_within(alloc: Global, parts: &Parts) -> Result<Command, WordsFail>
     tracing(alloc, parts, ttl)
 }
 
-fn tracing(alloc: Global, parts: &Parts, ttl: u8) -> Result<Command, WordsFail>
+fn tracing(alloc: Global, parts: &Parts, ttl: u8) -> Result<Request, WordsFail>
     requires { IsTtl ttl }
     ensures asked { Answers (tracing (texts parts.now.positional) ttl) result }
     ensures within { IfOk result IsWithin }
@@ -206,18 +212,24 @@ fn tracing(alloc: Global, parts: &Parts, ttl: u8) -> Result<Command, WordsFail>
     let Some(header) = header(alloc, header_word)? else {
         return Err(WordsFail::Refused);
     };
-    Ok(Command::Trace {
-        net: word(alloc, net)?,
-        links: word(alloc, links)?,
+    let packet = Packet {
         device: Text::copy_of(alloc, device.as_bytes())?,
         interface: Text::copy_of(alloc, interface.as_bytes())?,
         header,
-        ttl,
+    };
+    Ok(Request {
+        job: Job::Trace(Tracing {
+            net: word(alloc, net)?,
+            links: word(alloc, links)?,
+            packet,
+            ttl,
+        }),
+        workers: 1,
     })
 }
 
 // `read NET`
-fn read_network(alloc: Global, parts: &Parts) -> Result<Command, WordsFail>
+fn read_network(alloc: Global, parts: &Parts) -> Result<Request, WordsFail>
     ensures asked { Answers (without (texts parts.now.workers) (without (texts parts.now.ttl) (reading (texts parts.now.positional)))) result }
     ensures within { IfOk result IsWithin }
 {
@@ -227,13 +239,16 @@ fn read_network(alloc: Global, parts: &Parts) -> Result<Command, WordsFail>
     let [net] = parts.positional.as_slice() else {
         return Err(WordsFail::Refused);
     };
-    Ok(Command::Read {
-        net: word(alloc, net)?,
+    Ok(Request {
+        job: Job::Read {
+            net: word(alloc, net)?,
+        },
+        workers: 1,
     })
 }
 
 // `gen NUMBER SIZE`
-fn generate(parts: &Parts) -> Result<Command, WordsFail>
+fn generate(parts: &Parts) -> Result<Request, WordsFail>
     ensures asked { Answers (without (texts parts.now.ttl) (option_and_then (making (texts parts.now.positional)) (workers_of (texts parts.now.workers)))) result }
     ensures within { IfOk result IsWithin }
 {
@@ -243,7 +258,7 @@ fn generate(parts: &Parts) -> Result<Command, WordsFail>
     generate_by(parts)
 }
 
-fn generate_by(parts: &Parts) -> Result<Command, WordsFail>
+fn generate_by(parts: &Parts) -> Result<Request, WordsFail>
     ensures asked { Answers (option_and_then (making (texts parts.now.positional)) (workers_of (texts parts.now.workers))) result }
     ensures within { IfOk result IsWithin }
 {
@@ -253,7 +268,7 @@ fn generate_by(parts: &Parts) -> Result<Command, WordsFail>
     making(parts, workers)
 }
 
-fn making(parts: &Parts, workers: u32) -> Result<Command, WordsFail>
+fn making(parts: &Parts, workers: u32) -> Result<Request, WordsFail>
     requires { AreWorkers workers }
     ensures asked { Answers (making (texts parts.now.positional) workers) result }
     ensures within { IfOk result IsWithin }
@@ -267,9 +282,8 @@ fn making(parts: &Parts, workers: u32) -> Result<Command, WordsFail>
     let Some(size) = number_within(size.as_bytes(), 2, 200) else {
         return Err(WordsFail::Refused);
     };
-    Ok(Command::Gen {
-        number,
-        size,
+    Ok(Request {
+        job: Job::Gen { number, size },
         workers,
     })
 }

@@ -1,8 +1,9 @@
 //! The program `review`: the words of the command line, the system's files and streams, and the status.
 #![tactic(auto)]
 
+use job_core::no_memory;
 use net_io::{RealFiles, RealSink};
-use review_core::{no_memory, run};
+use review_core::run;
 use std::io::ErrorKind;
 use std::process::ExitCode;
 use std::sync::Wait;

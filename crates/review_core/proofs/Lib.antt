@@ -1,4 +1,2 @@
-pub mod JobLemmas
-pub mod Endings
 pub mod Accepted
 pub mod Naming

@@ -1,17 +1,20 @@
 -- A job: what the words ask, over what the files tell alone.
-use Rattle.std.specs.Prelude.{◌≡◌, ◌⊎◌, ℕ, Bool, false, List, [], ◌∷◌, Option, None, Some, Result, Ok, Err, nat_lt, length, option_map, ◌++◌, map, if◌then◌else◌}
+use Rattle.std.specs.Prelude.{◌≡◌, ℕ, ◌≤◌, Bool, false, List, [], ◌∷◌, Option, None, Some, Result, Ok, Err, nat_lt, length, map, unwrap_or}
 use Rattle.std.specs.List.{list_any}
 use Rattle.net_types.specs.declared.config.Loaded.{Loaded}
 use Rattle.net_types.specs.declared.network.Names.{Names}
 use Rattle.net_types.specs.declared.network.Network.{Network}
 use Rattle.net_types.specs.declared.network.Place.{Place}
 use Rattle.net_types.specs.declared.network.Section.{Section}
-use Rattle.net_types.specs.World.{World}
+use Rattle.net_types.specs.declared.question.Answer.{Answer}
+use Rattle.net_types.specs.declared.question.Question.{Question}
+use Rattle.net_types.specs.Questions.{AreAnswers}
 use Rattle.net_types.specs.Report.{IsReport}
-use Rattle.net_io.specs.Faults.{Faultless}
+use Rattle.net_types.specs.World.{World}
+use Rattle.net_io.specs.Limits.{file_limit}
 use Rattle.net_io.specs.Files.{Told, content}
-use Rattle.net_io.specs.Sink.{TookPrefix}
 use Rattle.topo_links.specs.declared.table.LinkTable.{LinkTable}
+use Rattle.topo_links.specs.Table.{table_names}
 use Rattle.net_load.specs.declared.numbering.Numbered.{Numbered}
 use Rattle.net_load.specs.declared.numbering.NumberedBoth.{NumberedBoth}
 use Rattle.net_load.specs.Numbering.{numbered_of, numbered_both, place_of}
@@ -20,29 +23,26 @@ use Rattle.net_gen.specs.Networks.{networks}
 use Rattle.report_text.specs.ReportText.{report_text, summary_text}
 use Rattle.report_text.specs.Readings.{readings_text}
 use Rattle.walk_trace.specs.Traced.{traced}
-use Rattle.net_types.specs.declared.question.Answer.{Answer}
-use Rattle.net_types.specs.declared.question.Question.{Question}
+use Rattle.walk_trace.specs.TraceText.{trace_text}
+use Rattle.ask_query.specs.declared.refusal.QuestionRefusal.{QuestionRefusal}
 use Rattle.ask_query.specs.declared.refusal.QuestionFail.TheVariants as fail
 use Rattle.ask_query.specs.AnswerText.{answers_text, failed_count}
-use Rattle.net_types.specs.Questions.{AreAnswers}
 use Rattle.ask_query.specs.Reading.{questions_of, said}
-use Rattle.walk_trace.specs.TraceText.{trace_text}
-use Rattle.review_core.specs.declared.report.Report.{Report}
-use Rattle.review_core.specs.declared.table.Wires.TheVariants as wires
-use Rattle.review_core.specs.declared.words.Job.{Job}
-use Rattle.review_core.specs.declared.words.Packet.{Packet}
-use Rattle.review_core.specs.declared.words.Job.TheVariants as job
-use Rattle.review_core.specs.declared.stop.Stop.{Stop}
-use Rattle.review_core.specs.declared.stop.Stop.TheVariants as stop
-use Rattle.review_core.specs.Stops.{status_of, line_of}
-use Rattle.review_core.specs.Steps.{Then, GivesBytes, GivesFolder, GivesTable}
-use Rattle.review_core.specs.Words.{job_of}
-
--- what is written, or that there was no memory for it
-abbrev pub OrNoMemory : (Report → Type 0) → Result Report Stop → Type 0
-OrNoMemory Is (Ok r) = Is r
-OrNoMemory Is (Err stop.NoMemory) = Unit {0}
-OrNoMemory Is (Err _) = ⊥
+use Rattle.ask_query.specs.Refusals.{refusal_text}
+use Rattle.job_core.specs.declared.report.Report.{Report}
+use Rattle.job_core.specs.declared.table.Wires.TheVariants as wires
+use Rattle.job_core.specs.declared.stop.Stop.{Stop}
+use Rattle.job_core.specs.declared.stop.Stop.TheVariants as stop
+use Rattle.job_core.specs.Steps.{Then, OrNoMemory, GivesBytes, GivesTable}
+use Rattle.job_inputs.specs.Folders.{GivesFolder}
+use Rattle.review_args.specs.declared.request.Asking.{Asking}
+use Rattle.review_args.specs.declared.request.Comparison.{Comparison}
+use Rattle.review_args.specs.declared.request.Job.{Job}
+use Rattle.review_args.specs.declared.request.Job.TheVariants as job
+use Rattle.review_args.specs.declared.request.Packet.{Packet}
+use Rattle.review_args.specs.declared.request.Tracing.{Tracing}
+use Rattle.review_args.specs.Requests.{job_of}
+use Rattle.review_core.specs.declared.tables.Tables.{Tables}
 
 -- ---- `compare OLD NEW LINKS [NEWLINKS]`
 
@@ -56,33 +56,45 @@ pub record IsReportOn (names : Names) (ingress : List Place) (old new : World) (
   pub text : r.text.items ≡ report_text names sections
   pub affected : r.affected ≡ list_any has_rows sections
 
--- both networks are wired by one table
-abbrev pub IsShared : Numbered → ℕ → Report → Type 0
-IsShared n ttl = IsReportOn n.names n.links.ingress (world n.old n.links) (world n.new n.links) ttl
+-- each network is wired by its table, and both are walked from the ingresses of either
+abbrev pub IsComparison : NumberedBoth → ℕ → Report → Type 0
+IsComparison n ttl = IsReportOn n.names n.ingress (world n.old n.old_links) (world n.new n.new_links) ttl
 
--- each is wired by a table of its own, and both are walked from the ingresses of either
-abbrev pub IsRewired : NumberedBoth → ℕ → Report → Type 0
-IsRewired n ttl = IsReportOn n.names n.ingress (world n.old n.old_links) (world n.new n.new_links) ttl
+-- the table that wires the new network: its own, or the old one's
+abbrev pub new_table : Tables → LinkTable
+new_table ts = unwrap_or ts.new ts.old
 
--- the new network's table, and the report
-abbrev pub Rewires : Told → List Loaded → List Loaded → LinkTable → List ℕ → ℕ → Result Report Stop → Type 0
-Rewires t old new table new_links ttl =
-    Then (GivesTable t new_links wires.First new old) (λ new_table. OrNoMemory (IsRewired (numbered_both old new table new_table []) ttl))
+-- the names in them are no more than bytes may be in a file
+pub record AreFew (ts : Tables) : Type 0 where
+  pub old : length (table_names ts.old) ≤ file_limit
+  pub new : length (table_names (new_table ts)) ≤ file_limit
 
--- the old folder, then the new one, then the link table, then that of the new network, if there is one, and the report
-abbrev pub ComparesOver : Told → List Loaded → List Loaded → List ℕ → Option (List ℕ) → ℕ → Result Report Stop → Type 0
-ComparesOver t old new links None ttl =
-    Then (GivesTable t links wires.Both old new) (λ table. OrNoMemory (IsShared (numbered_of old new table []) ttl))
-ComparesOver t old new links (Some new_links) ttl =
-    Then (GivesTable t links wires.First old new) (λ table. Rewires t old new table new_links ttl)
+-- the tables of the old network and of the new one
+abbrev pub AreTables : LinkTable → LinkTable → Result Tables Stop → Type 0
+AreTables old new (Ok ts) = (ts.old ≡ old) × (new_table ts ≡ new)
+AreTables old new (Err s) = ⊥
 
-abbrev pub ComparesWith : Told → List Loaded → List ℕ → List ℕ → Option (List ℕ) → ℕ → Result Report Stop → Type 0
-ComparesWith t old new links new_links ttl =
-    Then (GivesFolder (λ devices. devices) t new) (λ devices. ComparesOver t old devices links new_links ttl)
+-- the new network's own table beside the old one's
+abbrev pub GivesNewTable : Told → List Loaded → List Loaded → LinkTable → List ℕ → Result Tables Stop → Type 0
+GivesNewTable t old new table new_links =
+    Then (GivesTable t new_links wires.First new old) (λ other. AreTables table other)
 
-abbrev pub Compares : Told → List ℕ → List ℕ → List ℕ → Option (List ℕ) → ℕ → Result Report Stop → Type 0
-Compares t old new links new_links ttl =
-    Then (GivesFolder (λ devices. devices) t old) (λ devices. ComparesWith t devices new links new_links ttl)
+-- one table wires both networks, or each has its own, the old one's first
+abbrev pub GivesTables : Told → List Loaded → List Loaded → List ℕ → Option (List ℕ) → Result Tables Stop → Type 0
+GivesTables t old new links None = Then (GivesTable t links wires.Both old new) (λ table. AreTables table table)
+GivesTables t old new links (Some new_links) =
+    Then (GivesTable t links wires.First old new) (λ table. GivesNewTable t old new table new_links)
+
+-- the old folder, then the new one, then the link tables, and the report
+abbrev pub ComparesOver : Told → List Loaded → List Loaded → Comparison → Result Report Stop → Type 0
+ComparesOver t old new c =
+    Then (GivesTables t old new c.links c.new_links) (λ ts. OrNoMemory (IsComparison (numbered_both old new ts.old (new_table ts) []) c.ttl))
+
+abbrev pub ComparesWith : Told → List Loaded → Comparison → Result Report Stop → Type 0
+ComparesWith t old c = Then (GivesFolder (λ devices. devices) t c.new) (λ devices. ComparesOver t old devices c)
+
+abbrev pub Compares : Told → Comparison → Result Report Stop → Type 0
+Compares t c = Then (GivesFolder (λ devices. devices) t c.old) (λ devices. ComparesWith t devices c)
 
 -- ---- `ask NET LINKS QUESTIONS`
 
@@ -98,7 +110,8 @@ pub record IsAnswering (n : Numbered) (questions : List Question) (ttl : ℕ) (r
 
 -- why a text is refused as questions on a network
 abbrev pub QuestionsFail : List ℕ → Network → List ℕ → Stop → Type 0
-QuestionsFail path net bytes (stop.RefusedQuestions p kind n word) = (p ≡ path) × (questions_of net bytes ≡ Err (fail.Refused kind n word))
+QuestionsFail path net bytes (stop.Refused p n k word) =
+    (p ≡ path) × (kind : QuestionRefusal) × (k ≡ refusal_text kind) × (questions_of net bytes ≡ Err (fail.Refused kind n word))
 QuestionsFail path net bytes stop.NoMemory = Unit {0}
 QuestionsFail path net bytes _ = ⊥
 
@@ -108,17 +121,15 @@ AsksOn path n ttl bytes (Ok r) = (questions : List Question) × (questions_of n.
 AsksOn path n ttl bytes (Err s) = QuestionsFail path n.old bytes s
 
 -- the folder, then the link table, which is judged with the network as both, then the file of questions, and the answers
-abbrev pub AsksWith : Told → List Loaded → LinkTable → List ℕ → ℕ → Result Report Stop → Type 0
-AsksWith t devices table questions ttl =
-    Then (GivesBytes (λ bytes. bytes) questions (content t questions)) (λ bytes. AsksOn questions (asked_network devices table) ttl bytes)
+abbrev pub AsksWith : Told → List Loaded → LinkTable → Asking → Result Report Stop → Type 0
+AsksWith t devices table a =
+    Then (GivesBytes (λ bytes. bytes) a.questions (content t a.questions)) (λ bytes. AsksOn a.questions (asked_network devices table) a.ttl bytes)
 
-abbrev pub AsksOver : Told → List Loaded → List ℕ → List ℕ → ℕ → Result Report Stop → Type 0
-AsksOver t devices links questions ttl =
-    Then (GivesTable t links wires.Both devices devices) (λ table. AsksWith t devices table questions ttl)
+abbrev pub AsksOver : Told → List Loaded → Asking → Result Report Stop → Type 0
+AsksOver t devices a = Then (GivesTable t a.links wires.Both devices devices) (λ table. AsksWith t devices table a)
 
-abbrev pub Asks : Told → List ℕ → List ℕ → List ℕ → ℕ → Result Report Stop → Type 0
-Asks t net links questions ttl =
-    Then (GivesFolder (λ devices. devices) t net) (λ devices. AsksOver t devices links questions ttl)
+abbrev pub Asks : Told → Asking → Result Report Stop → Type 0
+Asks t a = Then (GivesFolder (λ devices. devices) t a.net) (λ devices. AsksOver t devices a)
 
 -- ---- `trace NET LINKS DEVICE INTERFACE HEADER`
 
@@ -140,13 +151,12 @@ abbrev pub IsTrace : List Loaded → LinkTable → Packet → ℕ → Report →
 IsTrace devices table packet ttl = IsTraceOn (traced_network devices table packet) packet ttl
 
 -- the folder, then the link table, which is judged with the network as both, and the trace
-abbrev pub TracesOver : Told → List Loaded → List ℕ → Packet → ℕ → Result Report Stop → Type 0
-TracesOver t devices links packet ttl =
-    Then (GivesTable t links wires.Both devices devices) (λ table. OrNoMemory (IsTrace devices table packet ttl))
+abbrev pub TracesOver : Told → List Loaded → Tracing → Result Report Stop → Type 0
+TracesOver t devices asked =
+    Then (GivesTable t asked.links wires.Both devices devices) (λ table. OrNoMemory (IsTrace devices table asked.packet asked.ttl))
 
-abbrev pub Traces : Told → List ℕ → List ℕ → Packet → ℕ → Result Report Stop → Type 0
-Traces t net links packet ttl =
-    Then (GivesFolder (λ devices. devices) t net) (λ devices. TracesOver t devices links packet ttl)
+abbrev pub Traces : Told → Tracing → Result Report Stop → Type 0
+Traces t asked = Then (GivesFolder (λ devices. devices) t asked.net) (λ devices. TracesOver t devices asked)
 
 -- ---- `read NET`
 
@@ -176,38 +186,12 @@ pub record IsSummaryOf (n : Numbered) (r : Report) : Type 0 where
 -- a job, done over what the files tell; or why it isn't
 abbrev pub Performs : Option Job → Told → Result Report Stop → Type 0
 Performs None t result = ⊥
-Performs (Some (job.Compare old new links new_links ttl)) t result = Compares t old new links new_links ttl result
-Performs (Some (job.Ask net links questions ttl)) t result = Asks t net links questions ttl result
-Performs (Some (job.Trace net links packet ttl)) t result = Traces t net links packet ttl result
+Performs (Some (job.Compare asked)) t result = Compares t asked result
+Performs (Some (job.Ask asked)) t result = Asks t asked result
+Performs (Some (job.Trace asked)) t result = Traces t asked result
 Performs (Some (job.Read net)) t result = Reads t net result
 Performs (Some (job.Gen number size)) t result = OrNoMemory (IsSummaryOf (networks number size)) result
 
 -- *Job*: what the words ask, done
 abbrev pub Does : List (List ℕ) → Told → Result Report Stop → Type 0
 Does words t result = Performs (job_of words) t result
-
-abbrev pub status_of_report : Report → ℕ
-status_of_report r = if r.affected then 1 else 0
-
--- the output took the whole report, behind what it took before, and the status says whether it has a row, or a question fails
-abbrev pub Wrote : List (List ℕ) → Told → ℕ → Option (List ℕ) → Option (List ℕ) → Type 0
-Wrote words t status before now =
-    (r : Report) × Does words t (Ok r) × (status ≡ status_of_report r) × (now ≡ option_map (λ taken. taken ++ r.text.items) before)
-
--- the output took a prefix of the report
-abbrev pub WrotePart : List (List ℕ) → Told → Option (List ℕ) → Option (List ℕ) → Type 0
-WrotePart words t before now = (r : Report) × Does words t (Ok r) × TookPrefix before r.text.items now
-
--- a line on the error output, whole where that didn't fail
-pub record Said (line : List ℕ) (before now : Option (List ℕ)) (faults_before faults_now : ℕ) : Type 0 where
-  pub taken : Faultless faults_before faults_now → now ≡ option_map (λ taken. taken ++ line) before
-
--- why there is no report, or that there was no memory to say it
-abbrev pub Tells : Stop → ℕ → Option (List ℕ) → Option (List ℕ) → ℕ → ℕ → Type 0
-Tells s status before now faults_before faults_now =
-    (told : Stop) × ((told ≡ s) ⊎ (told ≡ stop.NoMemory)) × (status ≡ status_of told) × Said (line_of told) before now faults_before faults_now
-
--- the first cause of the job, with its line
-abbrev pub StoppedWith : List (List ℕ) → Told → ℕ → Option (List ℕ) → Option (List ℕ) → ℕ → ℕ → Type 0
-StoppedWith words t status before now faults_before faults_now =
-    (s : Stop) × Does words t (Err s) × (status ≡ status_of s) × Said (line_of s) before now faults_before faults_now

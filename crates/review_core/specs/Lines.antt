@@ -1,7 +1,7 @@
--- The texts on the error output that are always the same.
+-- What is written where the words are outside the usage.
 use Rattle.std.specs.Prelude.{ℕ, List, ◌++◌, codes}
 
--- status 2: the words are outside the usage
+-- status 2
 abbrev pub usage_text : List ℕ
 usage_text =
     codes "usage:\n"
@@ -10,11 +10,3 @@ usage_text =
     ++ codes "  trace NET LINKS DEVICE INTERFACE HEADER [--ttl T]\n"
     ++ codes "  read NET\n"
     ++ codes "  gen NUMBER SIZE [--workers N]\n"
-
--- status 6: the output took no more
-abbrev pub cannot_write_text : List ℕ
-cannot_write_text = codes "cannot write\n"
-
--- status 7: there was no memory
-abbrev pub no_memory_text : List ℕ
-no_memory_text = codes "no memory\n"

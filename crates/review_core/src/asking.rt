@@ -1,22 +1,23 @@
-ghost use Rattle.std.specs.Prelude.{◌≡◌, ◌≤◌, IfOk, IfSome, length};
+//! `ask NET LINKS QUESTIONS`: the answers to the questions of a file.
+
+ghost use Rattle.std.specs.Prelude.{◌≡◌, ◌≤◌, IfErr, IfOk, IfSome, length};
 ghost use Rattle.net_io.specs.Limits.{file_limit};
 ghost use Rattle.net_load.specs.Limits.{folder_limit};
 ghost use Rattle.net_load.specs.Numbering.{folder_names};
 ghost use Rattle.topo_links.specs.Table.{table_names};
-ghost use Rattle.review_args.specs.Commands.{IsTtl};
-ghost use Rattle.review_core.specs.Causes.{HasCause};
-ghost use Rattle.review_core.specs.Job.{Asks, AsksOn, AsksOver, AsksWith, IsAnswering, OrNoMemory, asked_network};
+ghost use Rattle.review_args.specs.Requests.{IsTtl};
+ghost use Rattle.job_core.specs.Causes.{HasCause, WasRead};
+ghost use Rattle.job_core.specs.Steps.{OrNoMemory};
+ghost use Rattle.review_core.specs.Job.{Asks, AsksOn, AsksOver, AsksWith, IsAnswering, asked_network};
 
-use crate::file::read_bytes;
-use crate::folder::read_folder;
-use crate::report::Report;
-use crate::stop::Stop;
-use crate::table::{Wires, read_table};
 use crate::workers::Workers;
 use ask_query::{QuestionFail, answer, answers_bytes, failed_count, read_questions};
+use job_core::{Report, Stop, Wires, read_bytes, read_table};
+use job_inputs::read_folder;
 use net_io::Files;
 use net_load::{Numbered, number_all};
-use net_types::{Loaded, NoMemory, Question, Text};
+use net_types::{Loaded, NoMemory, Question};
+use review_args::Asking;
 use std::alloc::Global;
 use std::sync::Wait;
 use std::thread::Threads;
@@ -28,17 +29,14 @@ pub(crate) fn ask_in_folder<F: Files, R: Threads + Wait + Sync, G: Gate + Sync>(
     by: &Workers<R, G>,
     alloc: Global,
     files: &mut F,
-    net: &str,
-    links: &str,
-    questions: &str,
-    ttl: u8,
+    asked: &Asking,
 ) -> Result<Report, Stop>
-    requires { IsTtl ttl }
-    ensures job { IfSome (F.told files.old) (λ t. Asks t net.now links.now questions.now ttl result) }
+    requires { IsTtl asked.now.ttl }
+    ensures job { IfSome (F.told files.old) (λ t. Asks t asked.now result) }
     ensures cause { HasCause (F.faults files.old) (F.faults files.new) result }
 {
-    match read_folder(alloc, files, net) {
-        Ok(devices) => ask_over(by, alloc, files, devices, links, questions, ttl),
+    match read_folder(alloc, files, asked.net.as_str()) {
+        Ok(devices) => ask_over(by, alloc, files, devices, asked),
         Err(stop) => Err(stop),
     }
 }
@@ -49,17 +47,16 @@ fn ask_over<F: Files, R: Threads + Wait + Sync, G: Gate + Sync>(
     alloc: Global,
     files: &mut F,
     devices: Vec<Loaded>,
-    links: &str,
-    questions: &str,
-    ttl: u8,
+    asked: &Asking,
 ) -> Result<Report, Stop>
     requires names { length (folder_names devices.items) ≤ folder_limit }
-    requires ttl { IsTtl ttl }
-    ensures job { IfSome (F.told files.old) (λ t. AsksOver t devices.items links.now questions.now ttl result) }
+    requires ttl { IsTtl asked.now.ttl }
+    ensures job { IfSome (F.told files.old) (λ t. AsksOver t devices.items asked.now result) }
     ensures cause { HasCause (F.faults files.old) (F.faults files.new) result }
 {
+    let links = asked.links.as_str();
     match read_table(alloc, files, links, Wires::Both, &devices, &devices) {
-        Ok(table) => ask_with(by, alloc, files, devices, &table, questions, ttl),
+        Ok(table) => ask_with(by, alloc, files, devices, &table, asked),
         Err(stop) => Err(stop),
     }
 }
@@ -71,17 +68,16 @@ fn ask_with<F: Files, R: Threads + Wait + Sync, G: Gate + Sync>(
     files: &mut F,
     devices: Vec<Loaded>,
     table: &LinkTable,
-    questions: &str,
-    ttl: u8,
+    asked: &Asking,
 ) -> Result<Report, Stop>
     requires names { length (folder_names devices.items) ≤ folder_limit }
     requires table { length (table_names table.now) ≤ file_limit }
-    requires ttl { IsTtl ttl }
-    ensures job { IfSome (F.told files.old) (λ t. AsksWith t devices.items table.now questions.now ttl result) }
+    requires ttl { IsTtl asked.now.ttl }
+    ensures job { IfSome (F.told files.old) (λ t. AsksWith t devices.items table.now asked.now result) }
     ensures cause { HasCause (F.faults files.old) (F.faults files.new) result }
 {
-    match read_bytes(alloc, files, questions) {
-        Ok(bytes) => ask_numbered(by, alloc, devices, table, questions, &bytes, ttl),
+    match read_bytes(alloc, files, asked.questions.as_str()) {
+        Ok(bytes) => ask_numbered(by, alloc, devices, table, &bytes, asked),
         Err(stop) => Err(stop),
     }
 }
@@ -92,42 +88,43 @@ fn ask_numbered<R: Threads + Wait + Sync, G: Gate + Sync>(
     alloc: Global,
     devices: Vec<Loaded>,
     table: &LinkTable,
-    path: &str,
     bytes: &[u8],
-    ttl: u8,
+    asked: &Asking,
 ) -> Result<Report, Stop>
     requires names { length (folder_names devices.items) ≤ folder_limit }
     requires table { length (table_names table.now) ≤ file_limit }
     requires bytes { length bytes.now ≤ file_limit }
-    requires ttl { IsTtl ttl }
-    ensures { AsksOn path.now (asked_network devices.items table.now) ttl bytes.now result }
+    requires ttl { IsTtl asked.now.ttl }
+    ensures job { AsksOn asked.now.questions (asked_network devices.items table.now) asked.now.ttl bytes.now result }
+    ensures read { IfErr result WasRead }
 {
     let numbered = number_all(alloc, devices, Vec::new(alloc), table, &[])?;
-    ask_on(by, alloc, path, &numbered, bytes, ttl)
+    ask_on(by, alloc, &numbered, bytes, asked)
 }
 
 // The same, where names are numbers. Places of questions are found among those of the network.
 fn ask_on<R: Threads + Wait + Sync, G: Gate + Sync>(
     by: &Workers<R, G>,
     alloc: Global,
-    path: &str,
     numbered: &Numbered,
     bytes: &[u8],
-    ttl: u8,
+    asked: &Asking,
 ) -> Result<Report, Stop>
     requires bytes { length bytes.now ≤ file_limit }
-    requires ttl { IsTtl ttl }
-    ensures { AsksOn path.now numbered.now ttl bytes.now result }
+    requires ttl { IsTtl asked.now.ttl }
+    ensures job { AsksOn asked.now.questions numbered.now asked.now.ttl bytes.now result }
+    ensures read { IfErr result WasRead }
 {
     match read_questions(alloc, &numbered.old, bytes) {
-        Ok(questions) => answered(by, alloc, numbered, &questions, ttl),
+        Ok(questions) => answered(by, alloc, numbered, &questions, asked.ttl),
         Err(QuestionFail::NoMemory) => Err(Stop::NoMemory),
-        Err(QuestionFail::Refused { kind, line, word }) => Err(Stop::RefusedQuestions {
-            path: Text::copy_of(alloc, path.as_bytes())?,
-            kind,
-            line,
+        Err(QuestionFail::Refused { kind, line, word }) => Err(Stop::refused(
+            alloc,
+            asked.questions.as_str(),
+            u64::from(line),
+            kind.name(),
             word,
-        }),
+        )?),
     }
 }
 
@@ -139,7 +136,8 @@ fn answered<R: Threads + Wait + Sync, G: Gate + Sync>(
     ttl: u8,
 ) -> Result<Report, Stop>
     requires { IsTtl ttl }
-    ensures { OrNoMemory (IsAnswering numbered.now questions.now ttl) result }
+    ensures job { OrNoMemory (IsAnswering numbered.now questions.now ttl) result }
+    ensures read { IfErr result WasRead }
 {
     let report = answering(by, alloc, numbered, questions, ttl)?;
     Ok(report)

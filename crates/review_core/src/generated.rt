@@ -1,11 +1,14 @@
-ghost use Rattle.std.specs.Prelude.{IfOk};
-ghost use Rattle.review_args.specs.Commands.{IsSize};
-ghost use Rattle.net_gen.specs.Networks.{networks};
-ghost use Rattle.review_core.specs.Job.{IsSummaryOf, OrNoMemory};
+//! `gen NUMBER SIZE`: two networks that are made of a number, compared.
 
-use crate::report::{Report, any_rows};
-use crate::stop::Stop;
+ghost use Rattle.std.specs.Prelude.{IfOk};
+ghost use Rattle.review_args.specs.Requests.{IsSize};
+ghost use Rattle.net_gen.specs.Networks.{networks};
+ghost use Rattle.job_core.specs.Steps.{OrNoMemory};
+ghost use Rattle.review_core.specs.Job.{IsSummaryOf};
+
+use crate::rows::any_rows;
 use crate::workers::Workers;
+use job_core::{Report, Stop};
 use net_compare::compare;
 use net_gen::generate;
 use net_load::Numbered;

@@ -2,8 +2,9 @@
 
 ghost use Rattle.std.specs.Prelude.{◌≡◌, ℕ, List, Err};
 ghost use Rattle.net_io.specs.Files.{Told};
-ghost use Rattle.review_core.specs.declared.stop.Stop.{Stop};
-ghost use Rattle.review_core.specs.Accepted.{IsAccepted, MayAlwaysStop};
+ghost use Rattle.job_core.specs.declared.stop.Stop.{Stop};
+ghost use Rattle.job_core.specs.Accepted.{MayAlwaysStop};
+ghost use Rattle.review_core.specs.Accepted.{IsAccepted};
 ghost use Rattle.review_core.specs.Job.{Does};
 
 /// A job of which nothing is refused, too long or absent is stopped by nothing but a read that fails and want of memory:

@@ -1,27 +1,19 @@
-//! The program as one call: the words of the command line in, a report and a status out.
+//! The program `review` as one call: the words of the command line in, a report and a status out.
+//!
+//! `run` reads the request, does its job (`specs/Job.antt` says what that gives, over what the files tell), and ends as every
+//! program of the house does (`job_core`).
 #![tactic(auto)]
 
 mod asking;
 mod comparison;
-mod ending;
-mod file;
-mod folder;
 mod generated;
 pub mod laws;
 mod reading;
-mod report;
-mod rewiring;
-mod stop;
-mod table;
+mod rows;
+mod tables;
 mod top;
 mod tracing;
-mod words;
 mod workers;
 
-pub use ending::{no_memory, say, tell, write_report};
-pub use folder::read_folder;
-pub use report::Report;
-pub use stop::Stop;
-pub use table::Wires;
+pub use tables::Tables;
 pub use top::run;
-pub use words::{Job, Packet};

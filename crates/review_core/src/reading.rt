@@ -1,10 +1,12 @@
-ghost use Rattle.std.specs.Prelude.{◌≡◌, IfOk, IfSome};
-ghost use Rattle.review_core.specs.Causes.{HasCause};
-ghost use Rattle.review_core.specs.Job.{Reads, IsReading, OrNoMemory};
+//! `read NET`: a line for each configuration.
 
-use crate::folder::read_folder;
-use crate::report::Report;
-use crate::stop::Stop;
+ghost use Rattle.std.specs.Prelude.{◌≡◌, IfOk, IfSome};
+ghost use Rattle.job_core.specs.Causes.{HasCause};
+ghost use Rattle.job_core.specs.Steps.{OrNoMemory};
+ghost use Rattle.review_core.specs.Job.{Reads, IsReading};
+
+use job_core::{Report, Stop};
+use job_inputs::read_folder;
 use net_io::Files;
 use net_types::{Loaded, NoMemory};
 use report_text::readings_bytes;

@@ -1,21 +1,22 @@
+//! `trace NET LINKS DEVICE INTERFACE HEADER`: the trace of a packet.
+
 ghost use Rattle.std.specs.Prelude.{◌≡◌, ◌≤◌, ◌<◌, ◌^◌, ◌∷◌, [], IfOk, IfSome, length, position};
 ghost use Rattle.std.specs.Str.{bytes_eq};
 ghost use Rattle.net_io.specs.Limits.{file_limit};
 ghost use Rattle.net_load.specs.Limits.{folder_limit};
 ghost use Rattle.net_load.specs.Numbering.{count_names, folder_names, number_of};
 ghost use Rattle.topo_links.specs.Table.{table_names};
-ghost use Rattle.review_args.specs.Commands.{IsTtl};
-ghost use Rattle.review_core.specs.Causes.{HasCause};
-ghost use Rattle.review_core.specs.Job.{IsTrace, IsTraceOn, OrNoMemory, Traces, TracesOver, entry};
+ghost use Rattle.review_args.specs.Requests.{IsTtl};
+ghost use Rattle.job_core.specs.Causes.{HasCause};
+ghost use Rattle.job_core.specs.Steps.{OrNoMemory};
+ghost use Rattle.review_core.specs.Job.{IsTrace, IsTraceOn, Traces, TracesOver, entry};
 
-use crate::folder::read_folder;
-use crate::report::Report;
-use crate::stop::Stop;
-use crate::table::{Wires, read_table};
-use crate::words::Packet;
+use job_core::{Report, Stop, Wires, read_table};
+use job_inputs::read_folder;
 use net_io::Files;
 use net_load::{Numbered, number_all};
 use net_types::{Duplicate, Loaded, Names, NoMemory, Place, Text};
+use review_args::{Packet, Tracing};
 use std::alloc::Global;
 use topo_links::LinkTable;
 use walk_trace::{trace, trace_bytes};
@@ -24,17 +25,14 @@ use walk_trace::{trace, trace_bytes};
 pub(crate) fn trace_in_folder<F: Files>(
     alloc: Global,
     files: &mut F,
-    net: &str,
-    links: &str,
-    packet: &Packet,
-    ttl: u8,
+    asked: &Tracing,
 ) -> Result<Report, Stop>
-    requires { IsTtl ttl }
-    ensures job { IfSome (F.told files.old) (λ t. Traces t net.now links.now packet.now ttl result) }
+    requires { IsTtl asked.now.ttl }
+    ensures job { IfSome (F.told files.old) (λ t. Traces t asked.now result) }
     ensures cause { HasCause (F.faults files.old) (F.faults files.new) result }
 {
-    match read_folder(alloc, files, net) {
-        Ok(devices) => trace_over(alloc, files, devices, links, packet, ttl),
+    match read_folder(alloc, files, asked.net.as_str()) {
+        Ok(devices) => trace_over(alloc, files, devices, asked),
         Err(stop) => Err(stop),
     }
 }
@@ -44,17 +42,16 @@ fn trace_over<F: Files>(
     alloc: Global,
     files: &mut F,
     devices: Vec<Loaded>,
-    links: &str,
-    packet: &Packet,
-    ttl: u8,
+    asked: &Tracing,
 ) -> Result<Report, Stop>
     requires names { length (folder_names devices.items) ≤ folder_limit }
-    requires ttl { IsTtl ttl }
-    ensures job { IfSome (F.told files.old) (λ t. TracesOver t devices.items links.now packet.now ttl result) }
+    requires ttl { IsTtl asked.now.ttl }
+    ensures job { IfSome (F.told files.old) (λ t. TracesOver t devices.items asked.now result) }
     ensures cause { HasCause (F.faults files.old) (F.faults files.new) result }
 {
+    let links = asked.links.as_str();
     match read_table(alloc, files, links, Wires::Both, &devices, &devices) {
-        Ok(table) => trace_with(alloc, devices, &table, packet, ttl),
+        Ok(table) => trace_with(alloc, devices, &table, &asked.packet, asked.ttl),
         Err(stop) => Err(stop),
     }
 }

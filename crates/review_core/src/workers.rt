@@ -1,3 +1,5 @@
+//! Who compares and answers.
+
 ghost use Rattle.std.specs.Prelude.{◌≤◌};
 
 /// Who compares and answers: 1 to 64 workers, each of which passes the gate before it works on a region.

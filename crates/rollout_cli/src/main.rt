@@ -1,9 +1,9 @@
 //! The program `rollout`: the words of the command line, the system's files and streams, and the status.
 #![tactic(auto)]
 
-use audit_core::audit_run;
+use job_core::no_memory;
 use net_io::{RealFiles, RealSink};
-use review_core::no_memory;
+use rollout_core::tool;
 use std::io::ErrorKind;
 use std::process::ExitCode;
 use std::{env, io};
@@ -23,7 +23,7 @@ fn run_words(rt: HostRuntime, words: &[String]) -> u8 {
     let mut out = RealSink::new(rt.stdout());
     let mut err = RealSink::new(rt.stderr());
     let mut files = RealFiles::new(rt);
-    audit_run(alloc, words, &mut files, &mut out, &mut err)
+    tool(alloc, words, &mut files, &mut out, &mut err)
 }
 
 fn main(rt: HostRuntime) -> ExitCode {

@@ -1,8 +1,8 @@
 //! Runs of both programs over files in memory.
 
 use crate::stop::Stop;
-use audit_core::audit_run;
 use net_io::{MemFiles, MemSink};
+use rollout_core::tool;
 use std::alloc::{AllocError, Global};
 use std::io::Write;
 use view_core::view_run;
@@ -45,7 +45,7 @@ pub(crate) fn ran(
     let mut out = MemSink::new(alloc, room)?;
     let mut err = MemSink::new(alloc, 1000)?;
     let status = match program {
-        Program::Rollout => audit_run(alloc, &words, files, &mut out, &mut err),
+        Program::Rollout => tool(alloc, &words, files, &mut out, &mut err),
         Program::View => view_run(alloc, &words, files, &mut out, &mut err),
     };
     Ok(Finished { status, out, err })

@@ -3,7 +3,7 @@
 use crate::stop::Stop;
 use hdr_bits::Header;
 use net_types::{Text, Word};
-use review_args::{Command, WordsFail, read_words};
+use review_args::{Job, Packet, Request, WordsFail, read_words};
 use std::alloc::Global;
 use std::{fs, io};
 
@@ -36,54 +36,33 @@ fn words(alloc: Global, line: &str) -> Result<Vec<String>, Stop> {
 
 fn show_command(rt: &HostRuntime, words: &[String]) -> Result<(), Stop> {
     match read_words(rt.alloc(), words) {
-        Ok(command) => Ok(show_read(rt, &command)?),
+        Ok(request) => Ok(show_read(rt, &request)?),
         Err(WordsFail::Refused) => Ok(println!(rt; "refused")?),
         Err(WordsFail::NoMemory) => Err(Stop::NoMemory),
     }
 }
 
-fn show_read(rt: &HostRuntime, command: &Command) -> io::Result<()> {
-    match command {
-        Command::Compare {
-            old,
-            new,
-            links,
-            new_links,
-            workers,
-            ttl,
-        } => {
-            show_compared(rt, old, new, links)?;
-            show_new_links(rt, new_links)?;
-            println!(rt; ", {} workers, ttl {}", *workers, *ttl)
+fn show_read(rt: &HostRuntime, request: &Request) -> io::Result<()> {
+    let workers = request.workers;
+    match &request.job {
+        Job::Compare(asked) => {
+            show_compared(rt, &asked.old, &asked.new, &asked.links)?;
+            show_new_links(rt, &asked.new_links)?;
+            println!(rt; ", {} workers, ttl {}", workers, asked.ttl)
         }
-        Command::Ask {
-            net,
-            links,
-            questions,
-            workers,
-            ttl,
-        } => {
-            show_asked(rt, net, links, questions)?;
-            println!(rt; ", {} workers, ttl {}", *workers, *ttl)
+        Job::Ask(asked) => {
+            show_asked(rt, &asked.net, &asked.links, &asked.questions)?;
+            println!(rt; ", {} workers, ttl {}", workers, asked.ttl)
         }
-        Command::Trace {
-            net,
-            links,
-            device,
-            interface,
-            header,
-            ttl,
-        } => {
-            show_traced(rt, net, links)?;
-            show_place(rt, device, interface)?;
-            show_header(rt, header, *ttl)
+        Job::Trace(asked) => {
+            show_traced(rt, &asked.net, &asked.links)?;
+            show_place(rt, &asked.packet)?;
+            show_header(rt, &asked.packet.header, asked.ttl)
         }
-        Command::Read { net } => println!(rt; "read {}", net.as_str()),
-        Command::Gen {
-            number,
-            size,
-            workers,
-        } => println!(rt; "gen {} of {}, {} workers", *number, *size, *workers),
+        Job::Read { net } => println!(rt; "read {}", net.as_str()),
+        Job::Gen { number, size } => {
+            println!(rt; "gen {} of {}, {} workers", *number, *size, workers)
+        }
     }
 }
 
@@ -116,8 +95,12 @@ fn show_traced(rt: &HostRuntime, net: &Word, links: &Word) -> io::Result<()> {
     print!(rt; "trace {} over {}", net.as_str(), links.as_str())
 }
 
-fn show_place(rt: &HostRuntime, device: &Text, interface: &Text) -> io::Result<()> {
-    print!(rt; " from {} {}", text(device), text(interface))
+fn show_place(rt: &HostRuntime, packet: &Packet) -> io::Result<()> {
+    print!(rt;
+        " from {} {}",
+        text(&packet.device),
+        text(&packet.interface)
+    )
 }
 
 // A name of a device or an interface; the ones here are text.

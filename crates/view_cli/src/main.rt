@@ -1,11 +1,12 @@
 //! The program `view`: the words of the command line, the system's files and streams, and the status.
 #![tactic(auto)]
 
+use job_core::no_memory;
 use net_io::{RealFiles, RealSink};
 use std::io::ErrorKind;
 use std::process::ExitCode;
 use std::{env, io};
-use view_core::{no_memory, view_run};
+use view_core::view_run;
 
 // The words of the command line, without the program's name.
 fn words(rt: &HostRuntime) -> io::Result<Vec<String>> {

@@ -1,4 +1,4 @@
 pub mod OwnNames
 pub mod Reports
 pub mod Escapes
-pub mod Stops
+pub mod Asked

@@ -1,3 +1,5 @@
+//! Texts and numbers at the end of a text.
+
 ghost use Rattle.std.specs.Prelude.{◌≡◌, ◌++◌, OnOk};
 
 use itoa::{Buffer, Integer};

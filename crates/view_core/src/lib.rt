@@ -13,11 +13,10 @@ mod names;
 mod page;
 mod picture;
 mod script;
-mod stop;
 mod summary;
 mod text;
 mod top;
 mod words;
 
 pub use escape::escaped_is_plain;
-pub use top::{no_memory, view_run};
+pub use top::view_run;

@@ -1,3 +1,5 @@
+//! The words of the command line.
+
 ghost use Rattle.std.specs.Prelude.{◌≡◌, map, string_bytes, option_map, if◌then◌else◌, Some, None};
 ghost use Rattle.view_core.specs.Views.{path_of, links_of, is_path, is_html};
 

@@ -1,41 +1,19 @@
-use Rattle.std.proofs.Common.{◌≡◌, Some, Ok, Err, ap, sym, ◌∙◌, map, string_bytes}
+use Rattle.std.proofs.Common.{◌≡◌, Some, map, string_bytes, ap, sym, ◌∙◌}
 use Rattle.std.specs.Option.{option_copied}
-use Rattle.review_core.proofs.Endings.{tells_read}
-use Rattle.audit_core.specs.Words.{net_of}
-use Rattle.audit_core.proofs.Endings.{does_net, text_written, text_part, stop_writes_nothing, stop_told, stop_complete}
+use Rattle.job_core.proofs.EndingLemmas.{ends}
+use Rattle.audit_core.specs.Words.{net_of, usage_text}
+use Rattle.audit_core.specs.Audits.{Does, IsAccepted}
+use Rattle.audit_core.proofs.Endings.{does_net, accepted_may_stop}
 use Rattle.audit_core.proofs.top.audit_run.Goals as goal
 
-pub returns-in-Ok-clause-written : goal.returns-in-Ok-clause-written
-returns-in-Ok-clause-written g c =
+pub returns-clause-ends : goal.returns-clause-ends
+returns-clause-ends g c =
     let words = map string_bytes c.args.words.now in
     let told = g.F.Files.told c.args.files.now in
+    let done = c.audit_network-done.result in
     let asked : net_of words ≡ Some c.in-Some.net.now = sym c.net_of.ensures ∙ ap option_copied c.in-Some.is in
-    text_written words told c.in-Ok.report (does_net words told c.in-Some.net.now (Ok c.in-Ok.report) asked c.in-Ok.ensures.job) c.write_report.result (g.O.Sink.taken c.args.out.now) (g.O.Sink.taken c.write_report.new.out) c.write_report.ensures.written
-
-pub returns-in-Ok-clause-part : goal.returns-in-Ok-clause-part
-returns-in-Ok-clause-part g c =
-    let words = map string_bytes c.args.words.now in
-    let told = g.F.Files.told c.args.files.now in
-    let asked : net_of words ≡ Some c.in-Some.net.now = sym c.net_of.ensures ∙ ap option_copied c.in-Some.is in
-    text_part words told c.in-Ok.report (does_net words told c.in-Some.net.now (Ok c.in-Ok.report) asked c.in-Ok.ensures.job) c.write_report.result (g.O.Sink.taken c.args.out.now) (g.O.Sink.taken c.write_report.new.out) c.write_report.ensures.part
-
-pub returns-in-Err-clause-written : goal.returns-in-Err-clause-written
-returns-in-Err-clause-written g c =
-    stop_writes_nothing (map string_bytes c.args.words.now) (g.F.Files.told c.args.files.now) c.in-Err.stop c.tell.result (g.E.Sink.taken c.args.err.now) (g.E.Sink.taken c.tell.new.err) (g.O.Sink.taken c.args.out.now) (g.O.Sink.taken c.args.out.now) (g.E.Sink.faults c.args.err.now) (g.E.Sink.faults c.tell.new.err) c.tell.ensures
-
-pub returns-in-Err-clause-stopped : goal.returns-in-Err-clause-stopped
-returns-in-Err-clause-stopped g c =
-    let words = map string_bytes c.args.words.now in
-    let told = g.F.Files.told c.args.files.now in
-    let asked : net_of words ≡ Some c.in-Some.net.now = sym c.net_of.ensures ∙ ap option_copied c.in-Some.is in
-    stop_told words told c.in-Err.stop (does_net words told c.in-Some.net.now (Err c.in-Err.stop) asked c.in-Err.ensures.job) c.tell.result (g.E.Sink.taken c.args.err.now) (g.E.Sink.taken c.tell.new.err) (g.E.Sink.faults c.args.err.now) (g.E.Sink.faults c.tell.new.err) c.tell.ensures
-
-pub returns-in-Err-clause-complete : goal.returns-in-Err-clause-complete
-returns-in-Err-clause-complete g c =
-    let words = map string_bytes c.args.words.now in
-    let told = g.F.Files.told c.args.files.now in
-    let asked : net_of words ≡ Some c.in-Some.net.now = sym c.net_of.ensures ∙ ap option_copied c.in-Some.is in
-    stop_complete words told c.in-Err.stop (does_net words told c.in-Some.net.now (Err c.in-Err.stop) asked c.in-Err.ensures.job) c.tell.result (g.E.Sink.taken c.args.err.now) (g.E.Sink.taken c.tell.new.err) (g.E.Sink.faults c.args.err.now) (g.E.Sink.faults c.tell.new.err) _ _ _ _ c.tell.ensures c.in-Err.ensures.cause.fault
-
-pub returns-in-Err-clause-cannot_read_line : goal.returns-in-Err-clause-cannot_read_line
-returns-in-Err-clause-cannot_read_line g c = tells_read c.in-Err.stop c.tell.result (g.E.Sink.taken c.args.err.now) (g.E.Sink.taken c.tell.new.err) (g.E.Sink.faults c.args.err.now) (g.E.Sink.faults c.tell.new.err) c.tell.ensures
+    ends (Does words) (IsAccepted words) usage_text c.finish.result
+    (record { told = told; faults_before = g.F.Files.faults c.args.files.now; faults_now = g.F.Files.faults c.audit_network-done.new.files })
+    (record { before = g.O.Sink.taken c.args.out.now; now = g.O.Sink.taken c.finish.new.out; faults_before = g.O.Sink.faults c.args.out.now; faults_now = g.O.Sink.faults c.finish.new.out })
+    (record { before = g.E.Sink.taken c.args.err.now; now = g.E.Sink.taken c.finish.new.err; faults_before = g.E.Sink.faults c.args.err.now; faults_now = g.E.Sink.faults c.finish.new.err })
+    done (does_net words told c.in-Some.net.now done asked c.audit_network-done.ensures.job) c.audit_network-done.ensures.cause (accepted_may_stop words) c.finish.ensures

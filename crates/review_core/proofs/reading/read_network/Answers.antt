@@ -1,9 +1,10 @@
 use Rattle.std.proofs.Common.{List, Option, subst}
 use Rattle.net_io.specs.Files.{Told}
 use Rattle.net_types.specs.declared.config.Loaded.{Loaded}
-use Rattle.review_core.specs.Steps.{GivesFolder}
-use Rattle.review_core.specs.Job.{OrNoMemory, IsReading}
-use Rattle.review_core.proofs.JobLemmas.{then_go, however_told}
+use Rattle.job_core.specs.Steps.{OrNoMemory}
+use Rattle.job_core.proofs.StepLemmas.{then_go, however_told}
+use Rattle.job_inputs.specs.Folders.{GivesFolder}
+use Rattle.review_core.specs.Job.{IsReading}
 use Rattle.review_core.proofs.reading.read_network.Goals as goal
 
 pub returns-in-Ok-clause-job : goal.returns-in-Ok-clause-job

@@ -1,34 +1,22 @@
-use Rattle.std.proofs.Common.{Ok, Err, map, string_bytes}
-use Rattle.review_core.proofs.Endings.{does_job, report_written, report_part, stop_writes_nothing, stop_told, stop_complete, tells_read}
+use Rattle.std.proofs.Common.{◌≡◌, Some, map, string_bytes, ap}
+use Rattle.std.specs.Prelude.{option_map}
+use Rattle.job_core.proofs.EndingLemmas.{ends}
+use Rattle.review_args.specs.declared.request.Request.{Request}
+use Rattle.review_args.specs.Requests.{job_of}
+use Rattle.review_core.specs.Accepted.{IsAccepted}
+use Rattle.review_core.specs.Lines.{usage_text}
+use Rattle.review_core.specs.Job.{Does}
+use Rattle.review_core.proofs.Accepted.{accepted_may_stop, does_job}
 use Rattle.review_core.proofs.top.run.Goals as goal
 
-pub returns-in-Ok-perform-clause-written : goal.returns-in-Ok-perform-clause-written
-returns-in-Ok-perform-clause-written g c =
+pub returns-clause-ends : goal.returns-clause-ends
+returns-clause-ends g c =
     let words = map string_bytes c.args.words.now in
     let told = g.F.Files.told c.args.files.now in
-    report_written words told c.in-Ok-perform.report (does_job words told c.in-Ok.asked.job (Ok c.in-Ok-perform.report) c.in-Ok.ensures.job c.in-Ok-perform.ensures.job) c.write_report.result (g.O.Sink.taken c.args.out.now) (g.O.Sink.taken c.write_report.new.out) c.write_report.ensures.written
-
-pub returns-in-Ok-perform-clause-part : goal.returns-in-Ok-perform-clause-part
-returns-in-Ok-perform-clause-part g c =
-    let words = map string_bytes c.args.words.now in
-    let told = g.F.Files.told c.args.files.now in
-    report_part words told c.in-Ok-perform.report (does_job words told c.in-Ok.asked.job (Ok c.in-Ok-perform.report) c.in-Ok.ensures.job c.in-Ok-perform.ensures.job) c.write_report.result (g.O.Sink.taken c.args.out.now) (g.O.Sink.taken c.write_report.new.out) c.write_report.ensures.part
-
-pub returns-clause-written : goal.returns-clause-written
-returns-clause-written g c =
-    stop_writes_nothing (map string_bytes c.args.words.now) (g.F.Files.told c.args.files.now) c.in-Err.stop c.tell.result (g.E.Sink.taken c.args.err.now) (g.E.Sink.taken c.tell.new.err) (g.O.Sink.taken c.args.out.now) (g.O.Sink.taken c.args.out.now) (g.E.Sink.faults c.args.err.now) (g.E.Sink.faults c.tell.new.err) c.tell.ensures
-
-pub returns-clause-stopped : goal.returns-clause-stopped
-returns-clause-stopped g c =
-    let words = map string_bytes c.args.words.now in
-    let told = g.F.Files.told c.args.files.now in
-    stop_told words told c.in-Err.stop (does_job words told c.in-Ok.asked.job (Err c.in-Err.stop) c.in-Ok.ensures.job c.in-Err.ensures.job) c.tell.result (g.E.Sink.taken c.args.err.now) (g.E.Sink.taken c.tell.new.err) (g.E.Sink.faults c.args.err.now) (g.E.Sink.faults c.tell.new.err) c.tell.ensures
-
-pub returns-clause-complete : goal.returns-clause-complete
-returns-clause-complete g c =
-    let words = map string_bytes c.args.words.now in
-    let told = g.F.Files.told c.args.files.now in
-    stop_complete words told c.in-Err.stop (does_job words told c.in-Ok.asked.job (Err c.in-Err.stop) c.in-Ok.ensures.job c.in-Err.ensures.job) c.tell.result (g.E.Sink.taken c.args.err.now) (g.E.Sink.taken c.tell.new.err) (g.E.Sink.faults c.args.err.now) (g.E.Sink.faults c.tell.new.err) _ _ _ _ c.tell.ensures c.in-Err.ensures.cause.fault
-
-pub returns-clause-cannot_read_line : goal.returns-clause-cannot_read_line
-returns-clause-cannot_read_line g c = tells_read c.in-Err.stop c.tell.result (g.E.Sink.taken c.args.err.now) (g.E.Sink.taken c.tell.new.err) (g.E.Sink.faults c.args.err.now) (g.E.Sink.faults c.tell.new.err) c.tell.ensures
+    let done = c.perform-done.result in
+    let asked : job_of words ≡ Some c.in-Ok.request.job = ap (option_map (λ (r : Request). r.job)) c.in-Ok.ensures.request in
+    ends (Does words) (IsAccepted words) usage_text c.finish.result
+    (record { told = told; faults_before = g.F.Files.faults c.args.files.now; faults_now = g.F.Files.faults c.perform-done.new.files })
+    (record { before = g.O.Sink.taken c.args.out.now; now = g.O.Sink.taken c.finish.new.out; faults_before = g.O.Sink.faults c.args.out.now; faults_now = g.O.Sink.faults c.finish.new.out })
+    (record { before = g.E.Sink.taken c.args.err.now; now = g.E.Sink.taken c.finish.new.err; faults_before = g.E.Sink.faults c.args.err.now; faults_now = g.E.Sink.faults c.finish.new.err })
+    done (does_job words told c.in-Ok.request.job done asked c.perform-done.ensures.job) c.perform-done.ensures.cause (accepted_may_stop words) c.finish.ensures

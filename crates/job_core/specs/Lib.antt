@@ -1,0 +1,6 @@
+pub mod Lines
+pub mod Stops
+pub mod Causes
+pub mod Steps
+pub mod Accepted
+pub mod Endings

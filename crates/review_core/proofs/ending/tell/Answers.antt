@@ -1,6 +1,0 @@
-use Rattle.std.proofs.Common.{refl, inr}
-use Rattle.review_core.specs.declared.stop.Stop.TheVariants as stop
-use Rattle.review_core.proofs.ending.tell.Goals as goal
-
-pub returns-in_default : goal.returns-in_default
-returns-in_default g c = (stop.NoMemory, inr refl, c.no_memory.ensures.status, c.no_memory.ensures.line)
