@@ -4,6 +4,8 @@
 enters, its header and a TTL, and questions on the first network in the file `questions`.
 
     random_networks.py FOLDER SEED
+
+Where SEED is a multiple of eight, the network is one in which many packets go round in circles.
 """
 import os
 import random
@@ -286,6 +288,77 @@ class Maker:
         return "".join(digits)
 
 
+class Circles(Maker):
+    """Two or three routers in a circle, each with a default route to the next one. Many translate what comes round, in rounds of
+    addresses of their own, so that a circle has more states than routers; and some have another default route beside it."""
+
+    def __init__(self, seed):
+        super().__init__(seed)
+        self.there_and_back = False
+        self.round = self.random.sample(["198.51.100.%d" % k for k in range(4)], self.pick(2, 2, 3))
+        self.rounds_of = self.pick("outside", "outside", "inside")
+
+    def network(self):
+        count = self.pick(2, 2, 3)
+        names = ["R%d" % (k + 1) for k in range(count)]
+        devices = {name: {} for name in names}
+        self.defaults = {name: [] for name in names}
+        subnets = [subnet for subnet in SUBNETS if not subnet.endswith("/31")]
+        pairs = [(names[k], names[(k + 1) % count]) for k in range(count)]
+        if count == 2 and self.chance(0.7):
+            self.connect(devices, subnets, names, self.pick("p2p", "lan"))
+            for name, other in pairs:
+                self.defaults[name].append(address_on(devices[other]["Ethernet0"]))
+            pairs = []
+        for a, b in pairs:
+            self.connect(devices, subnets, [a, b], self.pick("p2p", "p2p", "lan"))
+            self.defaults[a].append(address_on(list(devices[b].values())[-1]))
+            if self.chance(0.2):
+                self.defaults[b].append(address_on(list(devices[a].values())[-1]))
+        self.connect(devices, subnets, ["R1"], "")
+        self.links.append("ingress R1 %s" % self.random.choice(list(devices["R1"])))
+        if self.chance(0.3):
+            self.links.append("ingress R2 Ethernet0")
+        return {name: self.device(name, interfaces) for name, interfaces in devices.items()}
+
+    def device(self, name, interfaces):
+        own = list(interfaces)[-1]
+        translates = self.chance(0.6)
+        sections = []
+        for interface, lines in interfaces.items():
+            if translates:
+                lines.append(" ip nat %s" % (self.pick("inside", "outside") if interface == own else self.pick("outside", "outside", "inside")))
+            if self.chance(0.05):
+                lines.append(" ip access-group 101 %s" % self.pick("in", "out"))
+            sections.append(["interface " + interface] + lines)
+        hops = self.defaults[name] + ([self.pick("Null0", own, own + " " + self.address())] if self.chance(0.3) else [])
+        sections += [["ip route 0.0.0.0 0.0.0.0 " + hop] for hop in hops]
+        if self.chance(0.2):
+            sections.append([self.route(list(interfaces))])
+        if translates:
+            sections += self.translations()
+        if any("access-group" in line for section in sections for line in section):
+            sections += [["access-list 101 " + self.entry()], ["access-list 101 permit ip any any"]]
+        return sections
+
+    def translations(self):
+        """Each address of the round is written in place of the one before it: sources of hosts outside, or destinations of hosts
+        inside."""
+        turn = self.pick(1, -1)
+        return [["ip nat %s source static %s %s" % (self.rounds_of, a, b)] for a, b in zip(self.round, self.round[turn:] + self.round[:turn])]
+
+    def address(self):
+        return self.random.choice(self.round) if self.chance(0.4) else super().address()
+
+    def ttl(self):
+        """Around the length of a circle, and around the greatest one."""
+        return self.pick(self.random.randint(1, 7), self.random.randint(1, 28), self.random.randint(250, 255), 255)
+
+
+def address_on(lines):
+    return lines[0].split()[2]
+
+
 def ends_of(line):
     words = line.split()
     return [" ".join(pair) for pair in zip(words[1::2], words[2::2])]
@@ -303,7 +376,7 @@ def write(folder, version, devices):
 
 def main():
     folder, seed = sys.argv[1], int(sys.argv[2])
-    maker = Maker(seed)
+    maker = Circles(seed) if seed % 8 == 0 else Maker(seed)
     devices = maker.network()
     write(folder, "old", devices)
     write(folder, "new", maker.changed(devices))
