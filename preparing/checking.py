@@ -1,0 +1,80 @@
+"""Asks the verifier itself what it still refuses in what was prepared, in all files at once.
+
+Each file is read alone, and a line that is refused is taken out for the next reading, until nothing more is refused. The places are
+those of the texts that the lines come from.
+"""
+import os
+import re
+import subprocess
+import tempfile
+
+from .blocks import blocks_of
+from .faults import CannotRead, Faults, Refused
+from .texts import Line, is_indented, to_bytes
+from .told import print_lines
+
+TOP = os.path.dirname(os.path.dirname(os.path.abspath(__file__)))
+REFUSAL = re.compile(r"refused (?P<path>.*) line (?P<line>\d+) (?P<kind>\w+) ?(?P<word>.*)")
+# More refusals than this of one file tell nothing more.
+MOST = 100
+
+
+def program():
+    """The program that reads: the launcher, or another that the environment names."""
+    return os.environ.get("DIQENYU_REVIEW") or os.path.join(TOP, "review")
+
+
+def tell_first_run():
+    """Tells that the launcher will prove and build the verifier, where it hasn't been built yet: that takes its time."""
+    built = os.path.join(TOP, "crates", "review_cli", "out", "review_cli")
+    if not os.environ.get("DIQENYU_REVIEW") and not os.path.exists(built):
+        print_lines(["prepare: --check asks ./review, whose first run proves and builds it: some forty minutes on four cores"])
+
+
+def first_refusal(lines):
+    """The first refusal of a text, as its line, kind and word; None where it is accepted."""
+    with tempfile.TemporaryDirectory() as folder:
+        with open(os.path.join(folder, "device.cfg"), "wb") as file:
+            file.write(to_bytes(lines))
+        try:
+            done = subprocess.run([program(), "read", folder], capture_output=True, check=False)
+        except OSError as error:
+            raise CannotRead(program(), error.strerror) from None
+    if done.returncode == 0:
+        return None
+    told = done.stderr.decode("utf-8", "surrogateescape").strip().split("\n")[-1]
+    found = REFUSAL.fullmatch(told)
+    if done.returncode != 3 or found is None:
+        raise CannotRead(program(), told or "status %d" % done.returncode)
+    return int(found["line"]), found["kind"], found["word"]
+
+
+def placeholder(line):
+    """What stands in place of a refused line: below a line at the margin a comment, and at the margin a command that opens no
+    section and is passed over, so that what stands below it is passed over too."""
+    return line.again("!" if is_indented(line.text) else "taken-out")
+
+
+def refusals(path, lines):
+    """All refusals of a text, as faults."""
+    lines, found = list(lines), []
+    blocks_of(lines)
+    while len(found) < MOST:
+        refusal = first_refusal(lines)
+        if refusal is None:
+            break
+        number, kind, word = refusal
+        place = lines[number - 1] if number else Line("", path, 0)
+        found.append(Refused(place.path, place.number, kind, word))
+        if number == 0:
+            break
+        lines[number - 1] = placeholder(place)
+    return found
+
+
+def check(texts):
+    """Raises what the verifier refuses in these texts, pairs of a path and its lines."""
+    tell_first_run()
+    found = [fault for path, lines in texts for fault in refusals(path, lines)]
+    if found:
+        raise Faults(found)

@@ -1,0 +1,221 @@
+"""The program as its users call it: words, statuses, what is written, and what a new user tries."""
+import os
+import shutil
+import subprocess
+import unittest
+
+import helpers
+
+USAGE = """usage:
+  prepare CONFIGS OUT [--routes FOLDER] [--vrf NAME] [--keep-static] [--active FILE] [--check]
+  prepare --apply TICKETS OLD NEW [--check]
+"""
+R1 = ["hostname R1", "interface Ethernet0", " ip address 10.0.0.1 255.255.255.0"]
+
+
+class Words(helpers.Folders):
+    """The words of the command line."""
+
+    def test_outside_the_usage(self):
+        self.write("raw/R1.cfg", R1)
+        for words in ([], ["raw"], ["raw", "out", "more"], ["raw", ""], ["--help"], ["raw", "out", "--vrf"], ["raw", "out", "--vrf="],
+                      ["raw", "out", "--check=1"], ["raw", "out", "--check", "--check"], ["raw", "out", "--keep-static"],
+                      ["raw", "out", "--vrf", "--check"], ["--apply", "raw", "out"], ["--apply", "t", "raw", "out", "--vrf", "A"],
+                      ["raw", "out", "-x"]):
+            with self.subTest(words=words):
+                self.assert_refused(2, USAGE.rstrip("\n").split("\n"), *words)
+        self.assert_refused(2, ["usage:", "  collect INVENTORY OUT"], "inventory", program="collect")
+
+    def test_words_after_the_end_of_options(self):
+        self.write("--raw/R1.cfg", R1)
+        self.assertEqual(self.run_program("prepare", "--", "--raw", "out")[0], 0)
+        self.assertEqual(self.read("out/R1.cfg"), self.read("--raw/R1.cfg"))
+
+
+class Statuses(helpers.Folders):
+    """What is refused, and that nothing is written then."""
+
+    def test_not_there(self):
+        self.assert_refused(8, ["not found raw"], "raw", "out")
+        os.mkdir(self.path("raw"))
+        self.assert_refused(8, ["not found raw/*.cfg"], "raw", "out")
+        self.write("raw/R1.txt", R1)
+        self.assert_refused(8, ["not found raw/*.cfg"], "raw", "out")
+        self.write("raw/R1.cfg", R1)
+        self.assert_refused(8, ["not found routes"], "raw", "out", "--routes", "routes")
+        os.mkdir(self.path("routes"))
+        self.assert_refused(8, ["not found routes/R1.txt"], "raw", "out", "--routes", "routes")
+        self.assert_refused(8, ["not found active"], "raw", "out", "--active", "active")
+
+    def test_cannot_read(self):
+        os.makedirs(self.path("raw/R1.cfg"))
+        self.assert_refused(4, ["cannot read raw/R1.cfg"], "raw", "out")
+        self.write("file", ["x"])
+        self.assert_refused(4, ["cannot read file"], "file", "out")
+
+    def test_cannot_write(self):
+        self.write("raw/R1.cfg", R1)
+        self.write("full/file", ["x"])
+        self.write("file", ["x"])
+        self.assert_refused(6, ["cannot write full: it is there and not an empty folder"], "raw", "full", out="out")
+        self.assert_refused(6, ["cannot write file: it is there and not an empty folder"], "raw", "file", out="out")
+        self.assert_refused(6, ["cannot write raw: it is there and not an empty folder"], "raw", "raw", out="out")
+        status, told = self.run_program("prepare", "raw", "no/out")
+        self.assertEqual((status, told.startswith("cannot write no/out: there is no folder ")), (6, True))
+
+    def test_empty_folder_takes_it(self):
+        self.write("raw/R1.cfg", R1)
+        os.mkdir(self.path("out"))
+        self.assertEqual(self.run_program("prepare", "raw", "out/")[0], 0)
+        self.assertEqual(sorted(os.listdir(self.folder)), ["out", "raw"])
+
+    def test_first_faults_of_all_files(self):
+        self.write("raw/A.cfg", ["hostname A", "access-list 101 permit ip object-group X any", "access-list 101 permit ip object-group Y any"])
+        self.write("raw/B.cfg", ["!"])
+        self.write("raw/C.cfg", ["hostname C", "banner motd #", "never closed"])
+        self.write("routes/A.txt", ["what is this"])
+        self.write("routes/B.txt", [])
+        self.write("routes/C.txt", [])
+        self.assert_refused(3, [
+            "refused raw/A.cfg line 2 UnknownGroup X", "refused raw/B.cfg line 0 NoHostname", "refused raw/C.cfg line 2 BannerOpen",
+            "refused routes/A.txt line 1 UnknownLine what", "refused routes/B.txt line 0 NoTable", "refused routes/C.txt line 0 NoTable",
+        ], "raw", "out", "--routes", "routes")
+
+    def test_hostname_twice(self):
+        self.write("raw/A.cfg", ["hostname R1"])
+        self.write("raw/B.cfg", ["hostname R1"])
+        self.assert_refused(3, ["refused raw/B.cfg hostname taken by raw/A.cfg"], "raw", "out")
+
+
+class Texts(helpers.Folders):
+    """Texts as they come."""
+
+    def test_windows(self):
+        self.write("raw/R1.cfg", b"\xef\xbb\xbf" + "".join(line + "\r\n" for line in R1).encode())
+        status, told = self.run_program("prepare", "raw", "out")
+        self.assertEqual((status, self.read("out/R1.cfg").split("\n")[:-1]), (0, R1))
+        self.assertEqual(told.split("\n")[1:3], [
+            "  all  left out  a byte order mark before the first line: the verifier's lines end at a line feed",
+            "  all  left out  the carriage returns at the ends of 3 lines: the verifier's lines end at a line feed"])
+
+    def test_pager_and_controls(self):
+        for content, wanted in (
+            (b"hostname R1\n --More-- interface Ethernet0\n", "line 2 Paged --More--"),
+            (b"hostname R1\n<--- More --->\n", "line 2 Paged --- More ---"),
+            (b"hostname R1\n\x08\x08 interface Ethernet0\n", "line 2 ControlCharacter 0x08"),
+            ("hostname R1\n".encode("utf-16"), "line 1 ControlCharacter 0x00"),
+        ):
+            self.write("raw/R1.cfg", content)
+            self.assert_refused(3, ["refused raw/R1.cfg " + wanted], "raw", "out")
+
+    def test_other_bytes_and_names(self):
+        content = b"hostname R1\ninterface Ethernet0\n description caf\xe9 \xc2\xa0 \xe2\x80\xa8 x\n ip address 10.0.0.1 255.255.255.0\n"
+        self.write("raw/R 1 \u00e9.cfg", content)
+        self.write("raw/notes.txt", ["x"])
+        status, told = self.run_program("prepare", "raw", "out")
+        self.assertEqual((status, told), (0, "raw/R 1 \u00e9.cfg, R1\n  nothing was changed\nraw/notes.txt: not read, its name doesn't end in .cfg\n"))
+        with open(self.path("out/R 1 \u00e9.cfg"), "rb") as file:
+            self.assertEqual(file.read(), content)
+        with open(os.path.join(os.fsencode(self.folder), b"raw", b"R\xff.cfg"), "wb") as file:
+            file.write(b"hostname R2\naccess-list 101 permit ip object-group \xe9 any\n")
+        done = subprocess.run([os.path.join(helpers.TOP, "prepare"), "raw", "more"], cwd=self.folder, capture_output=True, check=False)
+        self.assertEqual((done.returncode, done.stderr), (3, b"refused raw/R\xff.cfg line 2 UnknownGroup \xe9\n"))
+
+    def test_banner_is_no_command(self):
+        lines = ["hostname R1", "banner motd ^C", "router ospf 1", "interface Ethernet9", " switchport", "^C"] + R1[1:]
+        self.write("raw/R1.cfg", lines)
+        status, told = self.run_program("prepare", "raw", "out")
+        self.assertEqual((status, told, self.read("out/R1.cfg").split("\n")[:-1]), (0, "raw/R1.cfg, R1\n  nothing was changed\n", lines))
+
+    def test_examples_stay(self):
+        """What the verifier accepts already is written as it was, byte for byte."""
+        folder = os.path.join(helpers.TOP, "examples")
+        for name in sorted(os.listdir(folder)):
+            old = os.path.join(folder, name, "old")
+            if name != "ospf" and os.path.isdir(old):
+                self.assertEqual(self.run_program("prepare", old, name)[0], 0)
+                for file in os.listdir(old):
+                    with open(os.path.join(old, file), "rb") as one, open(self.path(name, file), "rb") as two:
+                        self.assertEqual(one.read(), two.read())
+
+    def test_error_output_that_is_closed(self):
+        self.write("raw/R1.cfg", R1)
+        done = subprocess.run("%s raw out 2>&-" % os.path.join(helpers.TOP, "prepare"), cwd=self.folder, shell=True, check=False)
+        self.assertEqual((done.returncode, os.listdir(self.path("out"))), (0, ["R1.cfg"]))
+
+
+class Example(helpers.Folders):
+    """The six routers of the example."""
+
+    def setUp(self):
+        super().setUp()
+        self.example = os.path.join(helpers.TOP, "examples", "ospf")
+        shutil.copytree(self.example, self.path("examples/ospf"))
+
+    def assert_same(self, one, two):
+        self.assertEqual(sorted(os.listdir(one)), sorted(os.listdir(two)))
+        for name in os.listdir(one):
+            with open(os.path.join(one, name), "rb") as first, open(os.path.join(two, name), "rb") as second:
+                self.assertEqual(first.read(), second.read(), name)
+
+    def told(self, name):
+        with open(os.path.join(self.example, name), encoding="utf-8") as file:
+            return file.read()
+
+    def test_tickets(self):
+        found = self.run_program("prepare", "--apply", "examples/ospf/tickets", "examples/ospf/devices/old", "devices")
+        self.assertEqual(found, (0, self.told("told-tickets")))
+        self.assert_same(self.path("devices"), os.path.join(self.example, "devices/new"))
+
+    def test_prepared(self):
+        for version in ("old", "new"):
+            found = self.run_program("prepare", "examples/ospf/devices/" + version, version, "--routes", "examples/ospf/routes")
+            self.assertEqual(found, (0, self.told("told-" + version)))
+            self.assert_same(self.path(version), os.path.join(self.example, version))
+
+    @helpers.needs_review
+    def test_report(self):
+        words = [os.path.join(self.example, name) for name in ("old", "new", "links")]
+        done = subprocess.run([helpers.BUILT, "compare"] + words, capture_output=True, check=False)
+        self.assertEqual((done.returncode, done.stdout.decode()), (1, self.told("expected")))
+
+    def test_second_opinion(self):
+        words = [os.path.join(self.example, name) for name in ("old", "new", "links")]
+        done = subprocess.run(["/usr/bin/python3", os.path.join(helpers.TOP, "tests/rules.py")] + words, capture_output=True, check=True)
+        self.assertEqual(done.stdout.decode(), self.told("expected"))
+
+
+@helpers.needs_review
+class Check(helpers.Folders):
+    """What the verifier still refuses is told at the places of the texts that were given."""
+
+    def test_all_files(self):
+        self.write("raw/R1.cfg", R1 + [
+            "ipv6 unicast-routing", "interface Ethernet1", " ipv6 enable", " ip pim sparse-mode", "router ospf 1", " shutdown"])
+        self.write("raw/R2.cfg", [
+            "!", "hostname R2", "object-group network A", " host 10.0.0.1", "ip access-list extended L", " permit ip object-group A any fragments"])
+        self.write("raw/R3.cfg", ["hostname R3"])
+        self.assert_refused(3, [
+            "refused raw/R1.cfg line 4 NotCovered unicast-routing", "refused raw/R1.cfg line 6 NotCovered enable", "refused raw/R1.cfg line 7 NotCovered pim",
+            "refused raw/R1.cfg line 8 NotCovered router", "refused raw/R2.cfg line 6 NotCovered fragments"], "raw", "out", "--check")
+        self.assertEqual(self.run_program("prepare", "raw", "out")[0], 0)
+
+    def test_place_in_a_table(self):
+        self.write("raw/R1.cfg", R1)
+        self.write("routes/R1.txt", [
+            "Gateway of last resort is not set", "C    192.168.0.0/16 is directly connected, Ethernet0", "S    10.0.0.0/8 [1/0] via 10.0.0.2"])
+        self.write("raw/R1.cfg", ["hostname R1", "interface Ethernet0", " ip address 192.168.0.1 255.255.0.0", "interface Ethernet1",
+                                  " ip address 192.168.7.1 255.255.255.0"])
+        self.assert_refused(3, ["refused raw/R1.cfg line 5 OverlapOnDevice 192.168.7.1"], "raw", "out", "--check", "--routes", "routes")
+
+    def test_a_program_that_is_not_there(self):
+        self.write("raw/R1.cfg", R1)
+        status, told = self.run_program("prepare", "raw", "out", "--check", environment={})
+        self.assertEqual(status, 0, told)
+        done = subprocess.run([os.path.join(helpers.TOP, "prepare"), "raw", "more", "--check"], cwd=self.folder, capture_output=True, check=False,
+                              env=dict(os.environ, DIQENYU_REVIEW="/no/such/program"))
+        self.assertEqual((done.returncode, done.stderr), (4, b"cannot read /no/such/program: No such file or directory\n"))
+
+
+if __name__ == "__main__":
+    unittest.main()
