@@ -1,0 +1,46 @@
+# make install, make uninstall: the proved programs with their manual pages and completions, below PREFIX (with DESTDIR before it), from
+# the tree, where they have to be built (./review, ./rollout, ./view), or from an unpacked release.
+# PROGRAM_PREFIX stands before the programs' names, for a machine that has other programs of these names.
+PREFIX = /usr/local
+DESTDIR =
+PROGRAM_PREFIX =
+NAMES = review rollout view
+
+to = $(DESTDIR)$(PREFIX)
+inside = $(to)/lib/diqenyu
+pages = $(to)/share/doc/diqenyu
+bash = $(to)/share/bash-completion/completions
+zsh = $(to)/share/zsh/site-functions
+
+.PHONY: all install uninstall
+
+all:
+	@echo 'make install or make uninstall, with PREFIX=$(PREFIX) DESTDIR=$(DESTDIR) PROGRAM_PREFIX=$(PROGRAM_PREFIX)'
+
+install:
+	@for name in $(NAMES); do \
+	    [ -x programs/$$name ] || ./launch --built $$name >/dev/null || \
+	    { echo "$$name isn't built of today's sources: ./$$name proves and builds it" >&2; exit 70; }; \
+	done
+	install -d '$(inside)/programs' '$(to)/bin' '$(to)/share/man/man1' '$(to)/share/man/man7' '$(bash)' '$(zsh)' '$(pages)'
+	install -m 755 launch $(NAMES) '$(inside)/'
+	for name in $(NAMES); do \
+	    if [ -x programs/$$name ]; then program=programs/$$name; else program=$$(./launch --built $$name); fi && \
+	    install -m 755 "$$program" "$(inside)/programs/$$name" && \
+	    ln -sfn ../lib/diqenyu/$$name "$(to)/bin/$(PROGRAM_PREFIX)$$name" && \
+	    install -m 644 man/$$name.1 "$(to)/share/man/man1/$(PROGRAM_PREFIX)$$name.1" && \
+	    sed 's/^complete .*/complete -F _diqenyu $(PROGRAM_PREFIX)'$$name/ completions/diqenyu.bash >"$(bash)/$(PROGRAM_PREFIX)$$name" && \
+	    sed '1s/.*/#compdef $(PROGRAM_PREFIX)'$$name'='$$name/ completions/_diqenyu >"$(zsh)/_$(PROGRAM_PREFIX)$$name" || exit 1; \
+	done
+	install -m 644 man/diqenyu.7 '$(to)/share/man/man7/diqenyu.7'
+	install -m 644 README.md docs/*.md docs/*.png '$(pages)/'
+	if [ -e RELEASE ]; then install -m 644 RELEASE SOURCES PROGRAMS '$(pages)/'; fi
+	cp -R examples '$(pages)/'
+
+uninstall:
+	for name in $(NAMES); do \
+	    rm -f "$(to)/bin/$(PROGRAM_PREFIX)$$name" "$(to)/share/man/man1/$(PROGRAM_PREFIX)$$name.1" \
+	        "$(bash)/$(PROGRAM_PREFIX)$$name" "$(zsh)/_$(PROGRAM_PREFIX)$$name"; \
+	done
+	rm -f '$(to)/share/man/man7/diqenyu.7'
+	rm -rf '$(inside)' '$(pages)'
