@@ -18,7 +18,7 @@ use std::sync::Wait;
 use std::sync::atomic::AtomicU64;
 use std::thread::Threads;
 use std::time::Instant;
-use steal_pool::{roots_of, run};
+use steal_pool::{Workers, roots_of, run};
 
 #[derive(Clone, Copy)]
 struct Shape {
@@ -48,14 +48,12 @@ fn work<R: Threads + Wait + Sync>(
         rounds,
     };
     let gate = Counting::new();
-    let found = run(
+    let by = Workers {
         rt,
-        alloc,
-        roots.as_slice(),
-        splitter,
-        workers.clamp(1, 64),
-        &gate,
-    )?;
+        gate: &gate,
+        count: workers.clamp(1, 64),
+    };
+    let found = run(&by, alloc, roots.as_slice(), splitter)?;
     let mut leaves: u64 = 0;
     for _ in found.cursor() {
         leaves = leaves.saturating_add(1);

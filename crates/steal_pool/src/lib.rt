@@ -3,7 +3,7 @@
 //! A lane ([`lane`]) has one [`Owner`], which pushes tasks and takes them, and any of up to 64 [`Thief`]s, which other
 //! threads hold. Each task that was pushed is handed out at most once, the task of least place first.
 //!
-//! [`run`] finds the leaves of all roots by a [`Splitter`], with workers that take tasks from their lanes and steal from
+//! [`run`] finds the leaves of all roots by a [`Splitter`], with [`Workers`] that take tasks from their lanes and steal from
 //! those of others.
 #![tactic(auto)]
 
@@ -24,4 +24,4 @@ pub use gate::{Gate, OpenGate};
 pub use roots::roots_of;
 pub use rule::Task;
 pub use splitter::{Splitter, Worked, halves};
-pub use workers::run;
+pub use workers::{Workers, run};

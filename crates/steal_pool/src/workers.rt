@@ -1,4 +1,5 @@
 //! Workers, each with a lane of its own and a thief of every other, and the call that starts and joins them.
+
 ghost use Rattle.std.specs.Prelude.{◌≡◌, ◌<◌, ◌≤◌, ◌^◌, IfOk, AllPairs, length, vec_len};
 ghost use Rattle.task_board.specs.Regions.{LieApart};
 ghost use Rattle.task_board.specs.Stands.{Answers};
@@ -34,6 +35,31 @@ const CAPACITY_ALONE: usize = 1024;
 
 // In so many rounds one thief is split into 64.
 const ROUNDS: u32 = 6;
+
+/// Who works: 1 to 64 workers, each of which passes the gate before it works on a region.
+#[derive(Drop)]
+pub struct Workers<'a, R, G> {
+    /// The runtime that starts their threads.
+    pub rt: &'a R,
+    pub gate: &'a G,
+    /// How many there are.
+    pub count: u32,
+    pub ghost least: { 1 ≤ count },
+    pub ghost most: { count ≤ 64 },
+}
+
+impl<'a, R, G> Workers<'a, R, G> {
+    /// One of them alone.
+    pub fn one(&self) -> Workers<'a, R, G>
+        ensures { result.count ≡ 1 }
+    {
+        Workers {
+            rt: self.rt,
+            gate: self.gate,
+            count: 1,
+        }
+    }
+}
 
 // What a worker holds: the owner of its lane, and a thief of each lane.
 #[derive(Drop)]
@@ -181,14 +207,11 @@ fn run_as<
     G: Gate + Sync,
     R: Threads + Wait + Sync,
 >(
-    rt: &R,
+    by: &Workers<R, G>,
     alloc: Global,
     roots: &[Region],
     splitter: S,
-    workers: u32,
-    gate: &G,
 ) -> Result<Rope<Leaf<S::Value>>, NoMemory>
-    requires workers { (1 ≤ workers) × (workers ≤ 64) }
     requires apart { AllPairs LieApart roots.now }
     requires few { length roots.now < 2 ^ 32 }
     requires gives { K.gives ≡ S.gives splitter }
@@ -197,32 +220,29 @@ fn run_as<
 {
     let plan: Plan<S, K> = Plan::of(splitter);
     let board = Board::open_all(alloc, CallMeaning::new(), roots)?;
-    let mut seats = seats(alloc, workers as usize, roots.len())?;
+    let mut seats = seats(alloc, by.count as usize, roots.len())?;
     let tasks = hand_out(&board, seats.as_mut_slice());
     let pool = Pool::of(board, tasks);
-    let shared = &pool;
-    let by = &plan;
-    let _ = thread::map_vec(rt, seats, &|seat| work(rt, alloc, shared, by, gate, seat));
+    let (rt, gate) = (by.rt, by.gate);
+    let (shared, rule) = (&pool, &plan);
+    let _ = thread::map_vec(rt, seats, &|seat| work(rt, alloc, shared, rule, gate, seat));
     finish(rt, alloc, &plan, pool.into_board())
 }
 
-/// Works all roots down to leaves, by 1 to 64 workers.
+/// Works all roots down to leaves.
 ///
 /// The leaves are pairwise disjoint, each is inside a root, each has the splitter's value of all its headers, and no
 /// header of a root outside them has a value. A worker passes the gate before it works on a task. What the workers leave
 /// for want of memory, or of room in their lanes, the calling thread works on when they have ended, without the gate.
 pub fn run<S: Splitter + Send + Sync, G: Gate + Sync, R: Threads + Wait + Sync>(
-    rt: &R,
+    by: &Workers<R, G>,
     alloc: Global,
     roots: &[Region],
     splitter: S,
-    workers: u32,
-    gate: &G,
 ) -> Result<Rope<Leaf<S::Value>>, NoMemory>
-    requires workers { (1 ≤ workers) × (workers ≤ 64) }
     requires apart { AllPairs LieApart roots.now }
     requires few { length roots.now < 2 ^ 32 }
     ensures { IfOk result (λ r. Answers (S.gives splitter) roots.now r.items) }
 {
-    run_as::<S, Brand, G, R>(rt, alloc, roots, splitter, workers, gate)
+    run_as::<S, Brand, G, R>(by, alloc, roots, splitter)
 }

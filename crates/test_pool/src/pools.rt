@@ -9,14 +9,19 @@ use std::alloc::Global;
 use std::sync::Wait;
 use std::sync::atomic::AtomicU64;
 use std::thread::Threads;
-use steal_pool::{OpenGate, roots_of, run};
+use steal_pool::{OpenGate, Workers, roots_of, run};
 use task_board::Leaf;
 
 /// Two roots that are each a leaf, for two workers, each of which waits for the other at the gate.
 pub fn met<R: Threads + Wait + Sync>(rt: &R, alloc: Global) -> Result<String, NoMemory> {
     let roots = roots_of(alloc, &[Cube::all(), Cube::all()])?;
     let gate = Meeting::new();
-    let leaves = run(rt, alloc, roots.as_slice(), Slots { depth: 0 }, 2, &gate)?;
+    let two = Workers {
+        rt,
+        gate: &gate,
+        count: 2,
+    };
+    let leaves = run(&two, alloc, roots.as_slice(), Slots { depth: 0 })?;
     let text = format!(in alloc;
         "{} passed, {} gave up, {}",
         gate.noted(),
@@ -31,7 +36,12 @@ pub fn met<R: Threads + Wait + Sync>(rt: &R, alloc: Global) -> Result<String, No
 pub fn shared<R: Threads + Wait + Sync>(rt: &R, alloc: Global) -> Result<String, NoMemory> {
     let roots = roots_of(alloc, &[Cube::all()])?;
     let gate = Relay::new();
-    let leaves = run(rt, alloc, roots.as_slice(), Slots { depth: 9 }, 2, &gate)?;
+    let two = Workers {
+        rt,
+        gate: &gate,
+        count: 2,
+    };
+    let leaves = run(&two, alloc, roots.as_slice(), Slots { depth: 9 })?;
     let text = format!(in alloc;
         "{} passed, {} gave up, {}",
         gate.passed(),
@@ -47,10 +57,10 @@ pub fn nothing<R: Threads + Wait + Sync>(
     alloc: Global,
     workers: u32,
 ) -> Result<String, NoMemory> {
-    let workers = workers.clamp(1, 64);
+    let by = free(rt, workers);
     let roots = roots_of(alloc, &[Cube::all()])?;
-    let leaves = run(rt, alloc, roots.as_slice(), Nothing, workers, &OpenGate)?;
-    let text = format!(in alloc; "by {workers} workers {}", counted(alloc, leaves)?)?;
+    let leaves = run(&by, alloc, roots.as_slice(), Nothing)?;
+    let text = format!(in alloc; "by {} workers {}", by.count, counted(alloc, leaves)?)?;
     Ok(text)
 }
 
@@ -62,18 +72,11 @@ pub fn divided<R: Threads + Wait + Sync>(
     roots: u16,
     depth: u32,
 ) -> Result<String, NoMemory> {
-    let workers = workers.clamp(1, 64);
+    let by = free(rt, workers);
     let cubes = vec![in alloc; Cube::all(); usize::from(roots)]?;
     let roots = roots_of(alloc, cubes.as_slice())?;
-    let leaves = run(
-        rt,
-        alloc,
-        roots.as_slice(),
-        Slots { depth },
-        workers,
-        &OpenGate,
-    )?;
-    let text = format!(in alloc; "by {workers} workers {}", counted(alloc, leaves)?)?;
+    let leaves = run(&by, alloc, roots.as_slice(), Slots { depth })?;
+    let text = format!(in alloc; "by {} workers {}", by.count, counted(alloc, leaves)?)?;
     Ok(text)
 }
 
@@ -89,9 +92,18 @@ pub fn refused<R: Threads + Wait + Sync>(
         refused,
     };
     let roots = roots_of(alloc, &[Cube::all(), Cube::all()])?;
-    let leaves = run(rt, alloc, roots.as_slice(), splitter, 2, &OpenGate)?;
+    let leaves = run(&free(rt, 2), alloc, roots.as_slice(), splitter)?;
     let text = format!(in alloc; "{refused} times {}", counted(alloc, leaves)?)?;
     Ok(text)
+}
+
+// So many workers, or the nearest number that there may be, whose gate is open.
+fn free<'a, R>(rt: &'a R, count: u32) -> Workers<'a, R, OpenGate> {
+    Workers {
+        rt,
+        gate: &OpenGate,
+        count: count.clamp(1, 64),
+    }
 }
 
 // How many leaves there are, and how many of them have another value than their slot.
