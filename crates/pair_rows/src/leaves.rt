@@ -1,6 +1,6 @@
 //! The leaves of each slot, and its rows by them.
 
-ghost use Rattle.std.specs.Prelude.{◌≡◌, ◌≤◌, ◌<◌, ◌^◌, ℕ, ⊤, List, [], ◌∷◌, ◌++◌, IfOk, OnOk, Some, length, map, slice_get, slice_index_or};
+ghost use Rattle.std.specs.Prelude.{◌≡◌, ◌<◌, ◌^◌, ℕ, ⊤, List, [], ◌∷◌, ◌++◌, IfOk, OnOk, Some, length, map, slice_get, slice_index_or};
 ghost use Rattle.task_board.specs.declared.leaf.Leaf.{Leaf as Area};
 ghost use Rattle.pair_rows.specs.declared.leaves.SlotLeaves.{SlotLeaves};
 ghost use Rattle.pair_rows.specs.declared.leaves.SlotRows.{SlotRows};
@@ -16,6 +16,7 @@ use net_types::{NoMemory, Row};
 use std::alloc::Global;
 use std::mem;
 use std::thread::{Threads, for_each_mut};
+use steal_pool::Workers;
 use task_board::Leaf;
 
 /// The rows of one slot.
@@ -33,22 +34,25 @@ pub(crate) struct SlotLeaves<K: Pairing> {
 }
 
 /// The rows of each of so many slots, by leaves that hold all its headers. Each of the workers makes those of some slots.
-pub(crate) fn rows_of_leaves<M: PairSource<K> + Sync, K: Pairing + Send + Sync, R: Threads + Sync>(
-    rt: &R,
+pub(crate) fn rows_of_leaves<
+    M: PairSource<K> + Sync,
+    K: Pairing + Send + Sync,
+    G,
+    R: Threads + Sync,
+>(
+    by: &Workers<R, G>,
     alloc: Global,
     source: &M,
     slots: usize,
     leaves: Rope<Leaf<RegionRows<K>>>,
-    workers: u32,
 ) -> Result<Vec<SlotRows>, NoMemory>
     requires few { slots < 2 ^ 32 }
-    requires workers { 1 ≤ workers }
     requires whole { (k h : ℕ) → k < slots → h < 2 ^ 112 → HoldsHeader k leaves.items h }
     ensures count { IfOk result (λ all. length all.items ≡ slots) }
     ensures rows { IfOk result (λ all. (k : ℕ) (s : SlotRows) → slice_get all.items k ≡ Some s → AreRowsWithPairs (K.gives k) s.rows.items) }
 {
     let mut sorted = sorted_leaves(alloc, slots, leaves)?;
-    make_rows(rt, alloc, source, workers, &mut sorted);
+    make_rows(by, alloc, source, &mut sorted);
     let all = all_made(alloc, sorted)?;
     Ok(all)
 }
@@ -100,23 +104,21 @@ fn add_leaf<K: Pairing>(
     Ok(())
 }
 
-// Makes the rows of each slot, by so many workers at most.
-fn make_rows<M: PairSource<K> + Sync, K: Pairing + Send + Sync, R: Threads + Sync>(
-    rt: &R,
+// Makes the rows of each slot, by these workers at most.
+fn make_rows<M: PairSource<K> + Sync, K: Pairing + Send + Sync, G, R: Threads + Sync>(
+    by: &Workers<R, G>,
     alloc: Global,
     source: &M,
-    workers: u32,
     slots: &mut [SlotLeaves<K>],
 )
     requires few { length slots.old < 2 ^ 32 }
-    requires workers { 1 ≤ workers }
     ensures count { length slots.new ≡ length slots.old }
     ensures made { (k : ℕ) (d : SlotLeaves K) → k < length slots.old → IsMade (K.gives k) k (slice_index_or slots.old k d) (slice_index_or slots.new k d) }
 {
     for_each_mut(
-        rt,
+        by.rt,
         slots,
-        workers as usize,
+        by.count as usize,
         &|number: usize, slot: &mut SlotLeaves<K>|
             requires { number < 2 ^ 32 }
             ensures { IsMade (K.gives number) number slot.entry.now slot.exit.now }

@@ -22,4 +22,5 @@ pub use kept::Pairing;
 pub use label_pairs::LabelPairs;
 pub use leaves::SlotRows;
 pub use splitter::PairSource;
+pub use work::rows_of_function;
 pub use workers::rows_by_workers;

@@ -60,8 +60,10 @@ fn rows_within(
     Ok(Some(rows))
 }
 
-/// All rows of the function.
-pub(crate) fn rows_of_function(alloc: Global, given: &PairFunction) -> Result<Vec<Row>, NoMemory>
+/// All rows of the function, each with the pair of its headers.
+///
+/// It answers `NoMemory` only where there was none.
+pub fn rows_of_function(alloc: Global, given: &PairFunction) -> Result<Vec<Row>, NoMemory>
     ensures { IfOk result (λ rows. (g : ℕ → Option Pair) → IsFunctionOf g given.now → AreRowsWithPairs g rows.items) }
 {
     let pieces = given.table.rows(alloc, given.function)?;

@@ -1,6 +1,6 @@
 //! The call.
 
-ghost use Rattle.std.specs.Prelude.{◌≡◌, ◌<◌, ◌≤◌, ◌^◌, ℕ, IfOk, Some, AllPairs, Any, length, slice_get};
+ghost use Rattle.std.specs.Prelude.{◌≡◌, ◌<◌, ◌^◌, ℕ, IfOk, Some, AllPairs, Any, length, slice_get};
 ghost use Rattle.task_board.specs.Regions.{Holds, LieApart};
 ghost use Rattle.pair_rows.specs.declared.leaves.SlotRows.{SlotRows};
 ghost use Rattle.pair_rows.specs.Pairs.{AreRowsWithPairs};
@@ -16,31 +16,22 @@ use std::alloc::Global;
 use std::marker::PhantomData;
 use std::sync::Wait;
 use std::thread::Threads;
-use steal_pool::{Gate, roots_of, run};
+use steal_pool::{Gate, Workers, roots_of, run};
 
 // How many rows of a region are read off at once where the region may be divided among workers.
 const ROWS_AT_ONCE: usize = 1_024;
 
-/// The rows of each of so many slots, by 1 to 64 workers: in each slot the canonical rows of the function from headers to
-/// pairs that the source makes for it, each row with its pair.
+/// The rows of each of so many slots: in each slot the canonical rows of the function from headers to pairs that the source
+/// makes for it, each row with its pair.
 ///
-/// They are the same for each number of workers. A worker passes the gate before it works on a region. It answers `NoMemory`
-/// only where there was none.
+/// They are the same for each number of workers. It answers `NoMemory` only where there was none.
 pub fn rows_by_workers<
     M: PairSource<K> + Sync,
     K: Pairing + Send + Sync,
     G: Gate + Sync,
     R: Threads + Wait + Sync,
->(
-    rt: &R,
-    alloc: Global,
-    source: &M,
-    slots: usize,
-    workers: u32,
-    gate: &G,
-) -> Result<Vec<SlotRows>, NoMemory>
+>(by: &Workers<R, G>, alloc: Global, source: &M, slots: usize) -> Result<Vec<SlotRows>, NoMemory>
     requires few { slots < 2 ^ 32 }
-    requires workers { (1 ≤ workers) × (workers ≤ 64) }
     ensures count { IfOk result (λ all. length all.items ≡ slots) }
     ensures rows { IfOk result (λ all. (k : ℕ) (s : SlotRows) → slice_get all.items k ≡ Some s → AreRowsWithPairs (K.gives k) s.rows.items) }
 {
@@ -49,11 +40,11 @@ pub fn rows_by_workers<
     let splitter = BySlots {
         source,
         cells: cells.as_slice(),
-        most: most_at_once(workers),
+        most: most_at_once(by.count),
         pairing: PhantomData,
     };
-    let leaves = run(rt, alloc, roots.as_slice(), splitter, workers, gate)?;
-    let all = rows_of_leaves(rt, alloc, source, slots, leaves, workers)?;
+    let leaves = run(by, alloc, roots.as_slice(), splitter)?;
+    let all = rows_of_leaves(by, alloc, source, slots, leaves)?;
     Ok(all)
 }
 
