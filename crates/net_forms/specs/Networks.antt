@@ -2,11 +2,13 @@
 use Rattle.std.specs.Prelude.{ℕ, ◌≡◌, List, Some, All, length, slice_get}
 use Rattle.cube_diagram.specs.Functions.{Functions}
 use Rattle.net_types.specs.declared.network.NetDevice.{NetDevice}
+use Rattle.net_types.specs.World.{World}
 use Rattle.net_view.specs.Borrowed.{world_of}
 use Rattle.device_fates.specs.declared.fate.Fate.{Fate}
 use Rattle.net_forms.specs.declared.forms.DeviceForm.{DeviceForm}
 use Rattle.net_forms.specs.declared.forms.NetworkForm.{NetworkForm}
 use Rattle.net_forms.specs.declared.forms.Tables.{Tables}
+use Rattle.net_forms.specs.declared.formed.FormedNetwork.{FormedNetwork}
 use Rattle.like_devices.specs.Like.{IsLike}
 use Rattle.net_forms.specs.Along.{AreAlong}
 use Rattle.net_forms.specs.Forms.{IsDeviceForm}
@@ -19,6 +21,11 @@ AreDevices fs fates devices forms = AreAlong (IsDeviceForm fs fates) devices for
 pub record IsNetworkForm (fs : Functions) (fates : List Fate) (n : NetworkForm) : Type 0 where
   pub wiring : n.wiring ≡ world_of n.world
   pub devices : AreDevices fs fates n.world.network.now.devices n.devices.items
+
+-- this network is compiled in the tables
+pub record IsFormedNetwork (w : World) (n : FormedNetwork) : Type 0 where
+  pub form : IsNetworkForm n.tables.diagrams n.tables.fates n.form
+  pub world : world_of n.form.world ≡ w
 
 -- the wiring is that of the network, and there are as many forms as devices
 pub record IsIndexed (n : NetworkForm) : Type 0 where

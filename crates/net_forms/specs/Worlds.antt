@@ -1,4 +1,4 @@
--- Two networks over the same links.
+-- Two networks, each with its links.
 use Rattle.net_types.specs.World.{World}
 use Rattle.net_forms.specs.declared.version.Version.{Version}
 use Rattle.net_forms.specs.declared.version.Version.TheVariants as version

@@ -1,15 +1,18 @@
+//! Two networks that are compiled in one table.
+
 use crate::Version;
 use crate::compile::compile_network;
 use crate::forms::{DeviceLists, NetworkForm, Tables};
+use crate::networks::Networks;
 use crate::seat::{CompiledSeat, seat_at};
+use device_fates::Fates;
 use indexmap::IndexSet;
 use like_devices::{has_name, like_devices};
 use net_types::{NoMemory, Place};
-use net_view::WorldRef;
 use std::alloc::Global;
 use std::marker::Model;
 
-/// Two networks over the same links, compiled in one table. For the questions that ask one network both are that one.
+/// Two networks, compiled in one table.
 #[derive(Drop)]
 pub struct Prepared<'a> {
     tables: Tables,
@@ -31,12 +34,14 @@ impl<'a> Model for Prepared<'a> {
     ghost invariant = { λ p. ArePrepared p.tables p.old p.new p.like.keys };
 }
 
-/// The forms of two networks, in one table.
+/// The forms of two networks in one table, without its functions, to which others may be added meanwhile.
 #[derive(Clone, Copy)]
-pub struct PreparedForms<'a> {
-    pub tables: &'a Tables,
+pub struct BothForms<'a> {
+    pub fates: &'a Fates,
     pub old: &'a NetworkForm<'a>,
     pub new: &'a NetworkForm<'a>,
+    /// The names of devices that do the same in both.
+    pub like: &'a IndexSet<u32>,
 }
 
 /// Two networks compiled in one table, taken apart: functions may be added to the table.
@@ -51,11 +56,11 @@ pub struct PreparedParts<'a> {
 
 impl<'a> Prepared<'a> {
     ghost use Rattle.std.specs.Prelude.{◌≡◌, true, IfOk, IfSome, option_map};
-    ghost use Rattle.net_view.specs.Borrowed.{seat_of, world_of};
+    ghost use Rattle.net_view.specs.Borrowed.{seat_of};
     ghost use Rattle.like_devices.specs.Like.{IsLike};
     ghost use Rattle.net_types.specs.World.{seat_at};
     ghost use Rattle.net_forms.specs.Known.{AreKnownLists};
-    ghost use Rattle.net_forms.specs.Pairs.{ArePreparedForms, ArePreparedParts};
+    ghost use Rattle.net_forms.specs.Pairs.{ArePreparedParts, worlds_of};
     ghost use Rattle.net_forms.specs.Seats.{StandsIn};
     ghost use Rattle.net_forms.specs.Worlds.{world_in};
 
@@ -64,11 +69,11 @@ impl<'a> Prepared<'a> {
     /// # Errors
     ///
     /// There was no memory.
-    pub fn of(alloc: Global, old: WorldRef<'a>, new: WorldRef<'a>) -> Result<Prepared<'a>, NoMemory>
-        ensures { IfOk result (λ p. p ≡ record { old = world_of old.entry; new = world_of new.entry }) }
+    pub fn of(alloc: Global, networks: Networks<'a>) -> Result<Prepared<'a>, NoMemory>
+        ensures { IfOk result (λ p. p ≡ worlds_of networks.entry) }
     {
         let tables = Tables::new(alloc)?;
-        Prepared::with_lists(alloc, tables, old, new, &[], &[])
+        Prepared::with_lists(alloc, tables, networks, &[], &[])
     }
 
     /// Compiles two networks in these tables, which have the functions of some lists of the devices of both already.
@@ -79,15 +84,15 @@ impl<'a> Prepared<'a> {
     pub fn with_lists(
         alloc: Global,
         mut tables: Tables,
-        old: WorldRef<'a>,
-        new: WorldRef<'a>,
+        networks: Networks<'a>,
         old_lists: &[DeviceLists],
         new_lists: &[DeviceLists],
     ) -> Result<Prepared<'a>, NoMemory>
-        requires old { AreKnownLists tables.diagrams old.network.now.devices old_lists.now }
-        requires new { AreKnownLists tables.diagrams new.network.now.devices new_lists.now }
-        ensures { IfOk result (λ p. p ≡ record { old = world_of old.entry; new = world_of new.entry }) }
+        requires old { AreKnownLists tables.diagrams networks.old.network.now.devices old_lists.now }
+        requires new { AreKnownLists tables.diagrams networks.new.network.now.devices new_lists.now }
+        ensures { IfOk result (λ p. p ≡ worlds_of networks.entry) }
     {
+        let Networks { old, new } = networks;
         let before = compile_network(alloc, &mut tables, old, None, old_lists)?;
         let known = Some(&before);
         let after = compile_network(alloc, &mut tables, new, known, new_lists)?;
@@ -98,17 +103,6 @@ impl<'a> Prepared<'a> {
             new: after,
             like,
         })
-    }
-
-    /// Both networks as they are compiled, for whoever asks their functions.
-    pub fn forms<'b>(&'b self) -> PreparedForms<'b>
-        ensures { ArePreparedForms self.now result }
-    {
-        PreparedForms {
-            tables: &self.tables,
-            old: &self.old,
-            new: &self.new,
-        }
     }
 
     /// Its parts.
