@@ -1,4 +1,4 @@
--- Lists of two networks that are made functions before the networks are compiled.
+-- Lists of networks that are made functions before the networks are compiled.
 use Rattle.std.specs.Prelude.{List, Option, All, option_and_then, slice_get}
 use Rattle.cube_diagram.specs.Functions.{Functions}
 use Rattle.net_types.specs.declared.config.AccessList.{AccessList}

@@ -1,4 +1,4 @@
-//! From the tables of the workers to that of both networks.
+//! From the tables of the workers to the one in which the networks are compiled.
 
 ghost use Rattle.std.specs.Prelude.{◌≡◌, ◌<◌, ℕ, nat_eq, List, [], Some, All, IfOk, IfSome, OnOk, slice_get};
 ghost use Rattle.indexmap.specs.IndexMap.{get};
@@ -47,6 +47,21 @@ pub(crate) fn known_of(
     Ok(known)
 }
 
+/// No list of any device.
+pub(crate) fn none_known(alloc: Global) -> Result<KnownLists, NoMemory>
+    ensures { IfOk result (λ known. (both : BothDevices) → AreKnown both known) }
+{
+    let tables = Tables::new(alloc)?;
+    let old_lists = Vec::new(alloc);
+    let new_lists = Vec::new(alloc);
+    Ok(KnownLists {
+        tables,
+        old_lists,
+        new_lists,
+    })
+}
+
+// No list yet, with room for those of each device.
 fn nothing_known(alloc: Global, both: BothDevices) -> Result<KnownLists, NoMemory>
     ensures { IfOk result (AreKnown both.entry) }
 {

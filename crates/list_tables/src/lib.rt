@@ -1,6 +1,7 @@
-//! Long access lists of two networks, made functions by several workers beside one another, before the networks are compiled.
+//! Long access lists of two networks, or of one, made functions by several workers beside one another, before the networks are
+//! compiled.
 //!
-//! Each worker has a table of its own for its lists, and they are copied from there to the table of both networks. So what is
+//! Each worker has a table of its own for its lists, and they are copied from there to the table of the networks. So what is
 //! compiled is the same as without workers, and only the time differs.
 #![tactic(auto)]
 
@@ -10,4 +11,4 @@ mod prepared;
 mod shares;
 mod wanted;
 
-pub use prepared::prepared_by_workers;
+pub use prepared::{formed_by_workers, prepared_by_workers};

@@ -1,4 +1,4 @@
-//! Lists by where they stand in two networks.
+//! Lists by where they stand in the networks.
 
 ghost use Rattle.std.specs.Prelude.{◌≡◌, slice_get};
 ghost use Rattle.std.specs.Option.{option_copied};
@@ -8,7 +8,7 @@ use net_forms::Version;
 use net_types::{AccessList, NetDevice};
 use net_view::device_at;
 
-/// The devices of two networks.
+/// The devices of two networks. Where one is compiled alone it is the old one, and the new one has none.
 #[derive(Clone, Copy)]
 pub(crate) struct BothDevices<'a> {
     pub(crate) old: &'a [NetDevice],

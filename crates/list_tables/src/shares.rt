@@ -10,6 +10,7 @@ use cube_diagram::Diagrams;
 use net_types::NoMemory;
 use std::alloc::Global;
 use std::thread::{Threads, map_indices};
+use steal_pool::Workers;
 
 /// A list with the number of its function.
 #[derive(Clone, Copy)]
@@ -26,12 +27,11 @@ pub(crate) struct MadeShare {
 }
 
 /// What each of the workers made; nothing of one who had no memory.
-pub(crate) fn made_by_workers<R: Threads + Sync>(
-    rt: &R,
+pub(crate) fn made_by_workers<R: Threads + Sync, G>(
+    by: &Workers<R, G>,
     alloc: Global,
     both: BothDevices,
     wanted: &[WantedList],
-    workers: u32,
 ) -> Result<Vec<Option<MadeShare>>, NoMemory>
     ensures { IfOk result (λ made. All (λ share. IfSome share (IsMadeShare both.entry)) made.items) }
 {
@@ -39,8 +39,8 @@ pub(crate) fn made_by_workers<R: Threads + Sync>(
         ensures { IfSome result (IsMadeShare both.entry) }
     { share_of(alloc, both, wanted, worker) };
     // No worker without a list.
-    let makers = wanted.len().min(workers as usize);
-    let made = map_indices(rt, alloc, makers, &make)?;
+    let makers = wanted.len().min(by.count as usize);
+    let made = map_indices(by.rt, alloc, makers, &make)?;
     Ok(made)
 }
 
