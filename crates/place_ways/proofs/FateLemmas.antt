@@ -1,12 +1,11 @@
 -- What a device does with destinations, as ways.
-use Rattle.std.proofs.Common.{ℕ, ◌≡◌, ◌<◌, ◌+◌, ◌≤◌, ◌↔◌, inl, inr, cond, List, [], ◌∷◌, ◌++◌, take, map, length, get_or, Option, Some, None, IsSome, slice_get, option_and_then, option_map, refl, ap, sym, ◌∙◌, subst, arith}
+use Rattle.std.proofs.Common.{ℕ, ◌≡◌, ◌<◌, ◌+◌, ◌≤◌, ◌↔◌, inl, inr, cond, List, [], ◌∷◌, ◌++◌, take, map, length, get_or, Option, Some, None, slice_get, option_and_then, option_map, ap, sym, ◌∙◌, subst, arith}
 use Rattle.std.specs.Prelude.{Contains, position}
 use Rattle.std.proofs.lemmas.List.{take_more, map-append}
 use Rattle.std.proofs.lemmas.List.Elements.{Contains-append_cases, Contains-append_left, Contains-append_right}
 use Rattle.hdr_bits.specs.declared.header.Header.{Header}
-use Rattle.hdr_bits.specs.HeaderBits.{number, IsHeader}
-use Rattle.cube_diagram.specs.Combined.{if_both}
-use Rattle.cube_diagram.specs.Functions.{Functions, Keeps, count_of, value_at}
+use Rattle.hdr_bits.specs.HeaderBits.{IsHeader}
+use Rattle.cube_diagram.specs.Functions.{Functions, Keeps, count_of}
 use Rattle.fib_lookup.specs.declared.form.HopForm.{HopForm}
 use Rattle.fib_lookup.specs.Forms.{hop_of}
 use Rattle.device_fates.specs.declared.fate.Fate.{Fate}
@@ -37,9 +36,8 @@ use Rattle.set_walk.specs.Ways.{move_of}
 use Rattle.place_ways.specs.declared.seat.WaySeat.{WaySeat}
 use Rattle.place_ways.specs.Adding.{AddsWays, AreGiven, Makes, MakesAny}
 use Rattle.place_ways.specs.Seats.{IsWaySeat}
-use Rattle.set_walk.proofs.SetLemmas.{both_set}
 use Rattle.place_ways.proofs.SetLemmas.{kept_set, kept_below, keeps_same}
-use Rattle.place_ways.proofs.AddLemmas.{adds_then, adds_same, adds_from, nothing_added, told_list, told_any}
+use Rattle.place_ways.proofs.AddLemmas.{adds_then, adds_same, nothing_added, told_list, told_any}
 
 -- ---- the table grows
 pub at_kept : (f g : Functions) (at : WaySeat) → Keeps f g → IsWaySeat f at → IsWaySeat g at
@@ -52,18 +50,6 @@ at_kept f g at k r =
     }
 
 -- ---- fates
-has_value : (c : Config) (fates : List Fate) (value : Option ℕ) (a : ℕ) → HasFate c fates value a → IsSome value
-has_value c fates value a h = subst (λ o. IsSome o) (sym h.numbered) refl
-
--- every header has a fate
-pub fates_added : (f g k : Functions) (at : WaySeat) (fates : ℕ) (moves : Header → List Move) (a b : List Way) → IsWaySeat f at → Keeps f g → AreGiven f a → ((n : ℕ) → value_at g fates n ≡ if_both (value_at f at.device.now.fates n) (value_at f at.scope n)) → AddsWays g k (MakesAny g fates moves) a b → AddsWays f k (MakesAny f at.scope moves) a b
-fates_added f g k at fates moves a b r e given w p =
-    let s = both_set f g at.device.now.fates at.scope fates w in
-    adds_same f k _ _ a b (λ h i m. (
-      λ x. (((s h i).0 x.0).1, x.1),
-      λ x. ((s h i).1 (has_value at.seat.device.now.config at.fates.now (value_at f at.device.now.fates (number h)) h.dst (r.device.numbered h i), x.0), x.1),
-    )) (adds_from f g k _ a b e given p)
-
 -- the fate with the number that is a header's value
 same_number : (m n : ℕ) → Some m ≡ Some n → m ≡ n
 same_number m n e = cc

@@ -28,18 +28,19 @@ use Rattle.net_types.proofs.Members as members
 use Rattle.net_view.specs.Borrowed.{seat_of, world_of}
 use Rattle.set_walk.specs.Scopes.{IsKept}
 use Rattle.set_walk.specs.Sets.{InSet}
-use Rattle.set_walk.proofs.ScopeLemmas.{stays_kept_in}
+use Rattle.set_walk.proofs.ScopeLemmas.{stays_kept, stays_kept_in}
 use Rattle.set_walk.proofs.SetLemmas.{kept_below}
 use Rattle.set_walk.specs.declared.net.PlaceWays.{PlaceWays}
 use Rattle.set_walk.specs.declared.step.Way.{Way}
 use Rattle.set_walk.specs.Ways.{AreWaysAt}
 use Rattle.place_ways.specs.declared.base.Bases.{Bases}
+use Rattle.place_ways.specs.declared.seat.ScopedNetwork.{ScopedNetwork}
 use Rattle.place_ways.specs.declared.seat.WaySeat.{WaySeat}
 use Rattle.place_ways.specs.Adding.{HasMoves}
-use Rattle.place_ways.specs.Places.{AreBases, AreBasesOf, AreDone, ArePlaceWays, ArePositions, AreRight, AreTaken, DropsAll, HasSeatWays, HasWays, IsNumbered, IsPlaceIn, IsPosition, IsPut, IsScopeOf, LosesNone, TakesPositions, put_position}
+use Rattle.place_ways.specs.Places.{AreBases, AreBasesOf, AreDone, ArePlaceWays, ArePositions, AreRight, AreTaken, DropsAll, HasSeatWays, HasWays, IsNumbered, IsPlaceIn, IsPosition, IsPut, IsScopeOf, IsScopedNetwork, LosesNone, TakesPositions, put_position}
 use Rattle.place_ways.specs.Seats.{AreCounted, IsSeatOf, IsWaySeat}
 use Rattle.place_ways.proofs.AddLemmas.{given_kept, moves_kept}
-use Rattle.place_ways.proofs.BaseLemmas.{bases_kept, same_number}
+use Rattle.place_ways.proofs.BaseLemmas.{same_number}
 
 -- ---- a compiled network
 pub counted : (fs : Functions) (fates : List Fate) (n : NetworkForm) → IsNetworkForm fs fates n → AreCounted n
@@ -59,7 +60,10 @@ form_kept f g fates n k a =
     }
 
 pub scope_of_kept : (w : World) (f g : Functions) (scope : ℕ) → Keeps f g → IsScopeOf w f scope → IsScopeOf w g scope
-scope_of_kept w f g scope k a = record { below = kept_below f g scope k a.below; comes = stays_kept_in f g scope k a.below w a.comes }
+scope_of_kept w f g scope k a = record { below = kept_below f g scope k a.below; kept = stays_kept f g scope k a.below w a.kept; comes = stays_kept_in f g scope k a.below w a.comes }
+
+pub scoped_kept : (f g : Functions) (n : ScopedNetwork) → Keeps f g → IsScopedNetwork f n → IsScopedNetwork g n
+scoped_kept f g n k a = record { form = form_kept f g n.fates.now n.form.now k a.form; scope = scope_of_kept (world_of n.form.now.world) f g n.scope k a.scope }
 
 -- ---- what is found in a list
 find_in : {A : Type 0} (p : A → Bool) (xs : List A) (x : A) → find p xs ≡ Some x → Contains xs x × (p x ≡ true)
@@ -187,9 +191,6 @@ module _ (w : World) (f g : Functions) (scope : ℕ) (old new : List PlaceWays) 
 
   pub right_kept : (at : Place → Option ℕ) → AreRight w f scope old at → AreRight w g scope new at
   right_kept at a p = if_kept w p f g scope old new (at p) k l x (a p)
-
-  pub bases_of_kept : (name : ℕ) (b : Bases) → AreBasesOf w f scope old name b → AreBasesOf w g scope new name b
-  bases_of_kept name b a d e = bases_kept w f g scope old new d k l x b (a d e)
 
 -- the bases of the device of an interface are those of the device of that name
 pub bases_named : (w : World) (p : Place) (fs : Functions) (scope : ℕ) (lists : List PlaceWays) (seat : Seat) (b : Bases) → Some seat ≡ seat_at w p → AreBases w fs scope lists seat.device b → AreBasesOf w fs scope lists p.device b

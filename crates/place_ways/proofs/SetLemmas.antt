@@ -43,7 +43,7 @@ where_plain d0 d1 d2 f v m given r k l e q h i =
       λ a. (q h i).1 (g.1 a.0, subst (λ x. IsSome x) (sym (e (number h))) (t.1 a.1)),
     )
 
-both_some : (v : ℕ) (x g : Option ℕ) → (if_both x g ≡ Some v) ↔ (IsSome g × (x ≡ Some v))
+pub both_some : (v : ℕ) (x g : Option ℕ) → (if_both x g ≡ Some v) ↔ (IsSome g × (x ≡ Some v))
 both_some v x None = (λ e. absurd cc, λ a. absurd (no_value a.0))
 both_some v x (Some u) = (λ e. (refl, e), λ a. a.1)
 

@@ -1,12 +1,11 @@
 -- Ways that are added stage by stage, each with the set of the headers of which its move is made.
-use Rattle.std.specs.Prelude.{ℕ, ◌≡◌, ◌<◌, ◌+◌, ◌⊎◌, ◌↔◌, ◌==◌, List, Option, Some, None, Contains, if◌then◌else◌}
+use Rattle.std.specs.Prelude.{ℕ, ◌≡◌, ◌<◌, ◌⊎◌, ◌↔◌, ◌==◌, List, Some, None, Contains, if◌then◌else◌}
 use Rattle.std.specs.List.{list_any}
 use Rattle.hdr_bits.specs.declared.header.Header.{Header}
 use Rattle.hdr_bits.specs.HeaderBits.{number, IsHeader}
 use Rattle.cube_alg.specs.declared.stamp.Stamp.{Stamp}
 use Rattle.cube_alg.specs.Stamps.{applied}
 use Rattle.cube_diagram.specs.Functions.{Functions, count_of, value_at}
-use Rattle.cube_diagram.specs.Images.{retold}
 use Rattle.link_sends.specs.declared.sent.Sent.{Sent}
 use Rattle.link_sends.specs.declared.sent.Sent.TheVariants as sent
 use Rattle.net_types.specs.declared.network.Move.{Move}
@@ -51,26 +50,6 @@ pub record ByOne {A : Type 0} (P : A → Type 0) (xs : List A) : Type 0 where
   pub one : A
   pub among : Contains xs one
   pub is : P one
-
--- the part gives a header how far the value that the function gives it is from the first of these values, as many as counted,
--- and nothing where it is none of them
-pub record IsRange (fs : Functions) (function first count : ℕ) (gs : Functions) (part : ℕ) : Type 0 where
-  pub below : part < count_of gs
-  pub exact : (n v : ℕ) → (value_at gs part n ≡ Some v) ↔ ((v < count) × (value_at fs function n ≡ Some (first + v)))
-
--- the part gives a header only how far the value that the function gives it is from the first of these values, as many as counted
-pub record IsInRange (fs : Functions) (function first count : ℕ) (gs : Functions) (part : ℕ) : Type 0 where
-  pub below : part < count_of gs
-  pub tells : (n v : ℕ) → value_at gs part n ≡ Some v → (v < count) × (value_at fs function n ≡ Some (first + v))
-
--- the part gives a header only what the function gives it
-pub record IsPartOf (fs : Functions) (function part : ℕ) : Type 0 where
-  pub below : part < count_of fs
-  pub tells : (n v : ℕ) → value_at fs part n ≡ Some v → value_at fs function n ≡ Some v
-
--- the list tells of each of these values how far it is from the first, and nothing of others
-abbrev pub TellsRange : ℕ → ℕ → List (Option ℕ) → Type 0
-TellsRange first count told = (u v : ℕ) → (retold told (Some u) ≡ Some v) ↔ ((v < count) × (u ≡ first + v))
 
 -- the function gives a header its destination where it is one of the addresses, else nothing
 pub record TellsAddresses (fs : Functions) (addresses : List ℕ) (function : ℕ) : Type 0 where

@@ -11,19 +11,28 @@ use Rattle.net_types.specs.Moves.{is_inside, moves, moves_at, moves_in}
 use Rattle.net_types.specs.World.{World, Seat, same_place}
 use Rattle.set_walk.specs.declared.net.PlaceWays.{PlaceWays}
 use Rattle.set_walk.specs.Nets.{AreWays}
-use Rattle.set_walk.specs.Scopes.{IsKeptIn}
+use Rattle.set_walk.specs.Scopes.{IsKept, IsKeptIn}
 use Rattle.set_walk.specs.Ways.{AreWaysAt}
+use Rattle.net_forms.specs.Networks.{IsNetworkForm}
+use Rattle.net_view.specs.Borrowed.{world_of}
 use Rattle.place_ways.specs.declared.base.Bases.{Bases}
+use Rattle.place_ways.specs.declared.seat.ScopedNetwork.{ScopedNetwork}
 use Rattle.place_ways.specs.Adding.{AreGiven, HasMoves}
 
 -- each place of the network has its ways for the headers of the scope, at its position in the lists
 abbrev pub ArePlaceWays : World → Functions → ℕ → List PlaceWays → (Place → Option ℕ) → Type 0
 ArePlaceWays w fs scope lists position = AreWays w fs scope (λ p. option_and_then (slice_get lists) (position p))
 
--- the scope is a set of the table, and a header of it that comes in at a place is one still
+-- the scope is a set of the table, and a header of it that comes in at a place, or goes on to one, is one still
 pub record IsScopeOf (w : World) (fs : Functions) (scope : ℕ) : Type 0 where
   pub below : scope < count_of fs
+  pub kept : IsKept w fs scope
   pub comes : IsKeptIn w fs scope
+
+-- the network is compiled in the table, and the scope is one of it
+pub record IsScopedNetwork (fs : Functions) (n : ScopedNetwork) : Type 0 where
+  pub form : IsNetworkForm fs n.fates.now n.form.now
+  pub scope : IsScopeOf (world_of n.form.now.world) fs n.scope
 
 -- ---- how they are found, place by place
 

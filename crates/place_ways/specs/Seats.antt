@@ -2,7 +2,10 @@
 use Rattle.std.specs.Prelude.{ℕ, ◌≡◌, ◌<◌, List, Some, length, slice_get}
 use Rattle.hdr_bits.specs.declared.header.Header.{Header}
 use Rattle.hdr_bits.specs.HeaderBits.{IsHeader}
-use Rattle.cube_diagram.specs.Functions.{Functions, count_of}
+use Rattle.cube_diagram.specs.declared.value_sets.ValueSet.{ValueSet}
+use Rattle.cube_diagram.specs.Combined.{if_both}
+use Rattle.cube_diagram.specs.Functions.{Functions, count_of, value_at}
+use Rattle.cube_diagram.specs.ValueSets.{AreValueSets}
 use Rattle.net_types.specs.declared.network.NetDevice.{NetDevice}
 use Rattle.net_types.specs.Moves.{coming_in, moves_in}
 use Rattle.net_forms.specs.declared.forms.DeviceForm.{DeviceForm}
@@ -26,6 +29,10 @@ pub record IsWaySeat (fs : Functions) (s : WaySeat) : Type 0 where
 pub record AreWaysIn (fs : Functions) (s : WaySeat) (ways : List Way) : Type 0 where
   pub given : AreGiven fs ways
   pub moves : HasMoves (moves_in s.wiring.now (seat_of s.seat)) fs s.scope ways
+
+-- each number of a fate of the device that headers of the scope have, with the set of these headers
+abbrev pub AreFateSets : Functions → WaySeat → List ValueSet → Type 0
+AreFateSets fs s sets = AreValueSets fs (λ h. if_both (value_at fs s.device.now.fates h) (value_at fs s.scope h)) sets
 
 -- each device has as many forms of interfaces as interfaces
 pub record AreCounted (n : NetworkForm) : Type 0 where

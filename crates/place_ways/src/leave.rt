@@ -58,16 +58,29 @@ pub(crate) fn add_choice(
             Ok(())
         }
         HopForm::Direct { name } => {
-            let next = Next::Destination;
-            add_named(alloc, table, at, name.as_bytes(), next, given, ways)?;
+            let hop = Hop {
+                name: name.as_bytes(),
+                next: Next::Destination,
+            };
+            add_named(alloc, table, at, hop, given, ways)?;
             Ok(())
         }
         HopForm::Via { name, next } => {
-            let next = Next::Address { address: *next };
-            add_named(alloc, table, at, name.as_bytes(), next, given, ways)?;
+            let hop = Hop {
+                name: name.as_bytes(),
+                next: Next::Address { address: *next },
+            };
+            add_named(alloc, table, at, hop, given, ways)?;
             Ok(())
         }
     }
+}
+
+// The name of an interface by which headers leave, and the address that they are sent to next.
+#[derive(Clone, Copy)]
+struct Hop<'a> {
+    name: &'a [u8],
+    next: Next,
 }
 
 // Out of the interface of this name. Without one the packet is lost.
@@ -75,22 +88,26 @@ fn add_named(
     alloc: Global,
     table: &mut Diagrams,
     at: WaySeat,
-    name: &[u8],
-    next: Next,
+    hop: Hop,
     given: u32,
     ways: &mut Vec<Way>,
 ) -> Result<(), NoMemory>
     requires at { IsWaySeat table.old at }
     requires given { given < count_of table.old }
     requires ways { AreGiven table.old ways.old.items }
-    ensures added { OnOk result (AddsWays table.old table.new (Makes table.old given (λ h. leave_if_any at.entry.wiring.now (seat_of at.entry.seat) h (next_address next h) (seat_named at.entry.seat.device.now name.now))) ways.old.items ways.new.items) }
+    ensures added { OnOk result (AddsWays table.old table.new (Makes table.old given (λ h. leave_if_any at.entry.wiring.now (seat_of at.entry.seat) h (next_address hop.entry.next h) (seat_named at.entry.seat.device.now hop.entry.name.now))) ways.old.items ways.new.items) }
     ensures kept { Keeps table.old table.new }
 {
-    let Some(out) = out_named(at, name) else {
+    let Some(out) = out_named(at, hop.name) else {
         join_way(table, ways, Step::Lost, given)?;
         return Ok(());
     };
-    add_out(alloc, table, Leaving { at, out, next }, given, ways)?;
+    let leaving = Leaving {
+        at,
+        out,
+        next: hop.next,
+    };
+    add_out(alloc, table, leaving, given, ways)?;
     Ok(())
 }
 

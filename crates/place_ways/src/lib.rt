@@ -15,9 +15,8 @@ mod forward;
 mod leave;
 mod link;
 mod parts;
-mod ranges;
 mod seat;
 mod sets;
 mod ways;
 
-pub use ways::{BothWays, ways_of_both};
+pub use ways::{BothWays, NetworkWays, ways_of_both, ways_of_one};

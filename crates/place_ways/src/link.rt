@@ -16,7 +16,7 @@ use crate::addresses::destination_among;
 use crate::sets::{where_value, without};
 use cube_alg::Stamp;
 use cube_diagram::Diagrams;
-use link_sends::{Next, Sent, Wiring};
+use link_sends::{Addresses, Next, Sent, Wiring};
 use net_types::{NoMemory, Place};
 use set_walk::{Step, Way};
 use std::alloc::Global;
@@ -91,16 +91,7 @@ fn add_destinations(
     ensures kept { Keeps table.old table.new }
 {
     let addresses = link.wiring.addresses(alloc, link.place)?;
-    let otherwise = addresses.otherwise;
-    add_by_addresses(
-        alloc,
-        table,
-        link,
-        &addresses.listed,
-        otherwise,
-        given,
-        ways,
-    )?;
+    add_by_addresses(alloc, table, link, &addresses, given, ways)?;
     Ok(())
 }
 
@@ -109,22 +100,22 @@ fn add_by_addresses(
     alloc: Global,
     table: &mut Diagrams,
     link: Link,
-    addresses: &[u32],
-    otherwise: Sent,
+    addresses: &Addresses,
     given: u32,
     ways: &mut Vec<Way>,
 ) -> Result<(), NoMemory>
-    requires otherwise { (a : ℕ) → (Contains addresses.now a → ⊥) → (h : Header) → send link.wiring.now link.place a h (segment_of link.wiring.now link.place) ≡ sent_move link.place h otherwise }
+    requires otherwise { (a : ℕ) → (Contains addresses.now.listed.items a → ⊥) → (h : Header) → send link.wiring.now link.place a h (segment_of link.wiring.now link.place) ≡ sent_move link.place h addresses.now.otherwise }
     requires given { given < count_of table.old }
     requires stamp { IsStamp link.stamp }
     requires ways { AreGiven table.old ways.old.items }
     ensures added { OnOk result (AddsWays table.old table.new (Makes table.old given (λ h. send link.entry.wiring.now link.entry.place h.dst (applied link.entry.stamp h) (segment_of link.entry.wiring.now link.entry.place))) ways.old.items ways.new.items) }
     ensures kept { Keeps table.old table.new }
 {
-    let function = destination_among(alloc, table, addresses)?;
-    add_listed(table, link, addresses, function, given, ways)?;
+    let listed = addresses.listed.as_slice();
+    let function = destination_among(alloc, table, listed)?;
+    add_listed(table, link, listed, function, given, ways)?;
     let rest = without(table, given, function)?;
-    let step = stamped_step(link.place, link.stamp, otherwise);
+    let step = stamped_step(link.place, link.stamp, addresses.otherwise);
     join_way(table, ways, step, rest)?;
     Ok(())
 }

@@ -1,4 +1,4 @@
-//! An interface of a compiled network whose functions stand in a table that grows.
+//! A compiled network, and an interface of one, whose functions stand in a table that grows.
 
 ghost use Rattle.std.specs.Prelude.{◌≡◌, IfSome, length, option_map};
 ghost use Rattle.net_view.specs.Borrowed.{seat_of, world_of};
@@ -30,6 +30,17 @@ pub(crate) struct WaySeat<'a> {
     pub(crate) scope: u32,
 }
 
+/// A compiled network whose functions stand in a table that grows.
+#[derive(Clone, Copy)]
+pub(crate) struct ScopedNetwork<'a> {
+    /// What devices do with destinations, by numbers.
+    pub(crate) fates: &'a Fates,
+    /// The network, with the functions of its devices.
+    pub(crate) form: &'a NetworkForm<'a>,
+    /// The headers for which ways are told, a set of the table.
+    pub(crate) scope: u32,
+}
+
 ghost use Rattle.net_forms.specs.Forms.{IsFormOfSeat};
 ghost use Rattle.net_forms.specs.Networks.{IsIndexed};
 ghost use Rattle.place_ways.specs.Seats.{AreCounted, IsSeatOf};
@@ -48,31 +59,26 @@ pub(crate) fn out_named<'a>(at: WaySeat<'a>, name: &[u8]) -> Option<FormedSeat<'
 }
 
 /// What stands at a place of a compiled network.
-pub(crate) fn seat_at<'a>(
-    fates: &'a Fates,
-    network: &'a NetworkForm<'a>,
-    place: Place,
-    scope: u32,
-) -> Option<WaySeat<'a>>
-    requires counts { AreCounted network.now }
-    requires indexed { IsIndexed network.now }
-    ensures seat { option_map (λ s. seat_of s.seat) result ≡ seat_at (world_of network.now.world) place }
-    ensures form { IfSome result (IsSeatOf network.now) }
-    ensures fates { IfSome result (λ s. s.fates.now ≡ fates.now) }
-    ensures scope { IfSome result (λ s. s.scope ≡ scope) }
+pub(crate) fn seat_at<'a>(network: ScopedNetwork<'a>, place: Place) -> Option<WaySeat<'a>>
+    requires counts { AreCounted network.form.now }
+    requires indexed { IsIndexed network.form.now }
+    ensures seat { option_map (λ s. seat_of s.seat) result ≡ seat_at (world_of network.entry.form.now.world) place }
+    ensures form { IfSome result (IsSeatOf network.entry.form.now) }
+    ensures fates { IfSome result (λ s. s.fates.now ≡ network.entry.fates.now) }
+    ensures scope { IfSome result (λ s. s.scope ≡ network.entry.scope) }
 {
-    let Some(formed) = device_named(network, place.device) else {
+    let Some(formed) = device_named(network.form, place.device) else {
         return None;
     };
     let Some(one) = formed_numbered(formed, place.interface) else {
         return None;
     };
     Some(WaySeat {
-        fates,
-        wiring: &network.wiring,
+        fates: network.fates,
+        wiring: &network.form.wiring,
         seat: one.seat,
         device: formed.form,
         form: one.form,
-        scope,
+        scope: network.scope,
     })
 }

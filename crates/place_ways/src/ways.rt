@@ -1,26 +1,35 @@
-//! The ways of the places of two networks.
+//! The ways of the places of networks.
 
-ghost use Rattle.std.specs.Prelude.{◌≡◌, None, All, IfOk, OnOk};
+ghost use Rattle.std.specs.Prelude.{◌≡◌, None, IfOk, OnOk};
 ghost use Rattle.hdr_bits.specs.Lists.{Extends};
 ghost use Rattle.indexmap.specs.IndexMap.{get};
 ghost use Rattle.cube_diagram.specs.Functions.{Keeps};
-ghost use Rattle.like_devices.specs.Like.{IsLike};
 ghost use Rattle.net_forms.specs.Networks.{IsNetworkForm};
+ghost use Rattle.net_forms.specs.Pairs.{AreBothForms};
 ghost use Rattle.net_types.specs.World.{same_place};
 ghost use Rattle.net_view.specs.Borrowed.{world_of};
 ghost use Rattle.set_walk.specs.Scopes.{IsScope};
-ghost use Rattle.place_ways.specs.Places.{AreBasesOf, AreDone, ArePlaceWays, ArePositions, AreRight, AreTaken, DropsAll, IsNumbered, IsPlaceIn, IsPosition, IsPut, IsScopeOf, LosesNone, TakesPositions};
+ghost use Rattle.place_ways.specs.Places.{AreBasesOf, AreDone, ArePlaceWays, ArePositions, AreRight, AreTaken, DropsAll, IsNumbered, IsPlaceIn, IsPosition, IsPut, IsScopeOf, IsScopedNetwork, LosesNone, TakesPositions};
 
 use crate::base::{Bases, seat_position};
-use crate::seat::seat_at;
+use crate::seat::{ScopedNetwork, seat_at};
 use cube_diagram::Diagrams;
 use device_fates::Fates;
 use indexmap::{IndexMap, IndexSet};
 use like_devices::has_name;
-use net_forms::NetworkForm;
+use net_forms::{BothForms, NetworkForm};
 use net_types::{NetDevice, NoMemory, Place};
 use set_walk::PlaceWays;
 use std::alloc::Global;
+
+/// The ways of the places of a network, in a list in which places share them.
+#[derive(Drop)]
+pub struct NetworkWays {
+    /// Ways of one place or of several.
+    pub lists: Vec<PlaceWays>,
+    /// The position of the ways of a place.
+    pub positions: IndexMap<Place, usize>,
+}
 
 /// The ways of the places of two networks, in one list that both share.
 #[derive(Drop)]
@@ -41,8 +50,8 @@ struct Taken<'a> {
 }
 
 /// The ways of all places of two networks for the headers of a scope: such a header makes a move at a place exactly where the
-/// move is that of a way that has the header, and a place without a position drops everything. `like` has names of devices that are alike in both
-/// networks, whose places share their ways. The table is the one in which the networks are compiled, or a copy of it that
+/// move is that of a way that has the header, and a place without a position drops everything. The places of devices that are
+/// alike in both networks share their ways. The table is the one in which the networks are compiled, or a copy of it that
 /// may have grown since: the sets are added to it, and no function that is there is changed.
 ///
 /// # Errors
@@ -50,48 +59,70 @@ struct Taken<'a> {
 /// There was no memory.
 pub fn ways_of_both<'a>(
     alloc: Global,
-    fates: &'a Fates,
-    old: &'a NetworkForm<'a>,
-    new: &'a NetworkForm<'a>,
-    like: &IndexSet<u32>,
+    forms: BothForms<'a>,
     scope: u32,
     table: &mut Diagrams,
 ) -> Result<BothWays, NoMemory>
-    requires old { IsNetworkForm table.old fates.now old.now }
-    requires new { IsNetworkForm table.old fates.now new.now }
-    requires like { All (IsLike (world_of old.now.world) (world_of new.now.world)) like.now.keys }
-    requires scope { IsScope (world_of old.now.world) (world_of new.now.world) table.old scope }
-    ensures old { IfOk result (λ r. ArePlaceWays (world_of old.now.world) table.new scope r.lists.items (get same_place r.old)) }
-    ensures new { IfOk result (λ r. ArePlaceWays (world_of new.now.world) table.new scope r.lists.items (get same_place r.new)) }
+    requires forms { AreBothForms table.old forms }
+    requires scope { IsScope (world_of forms.old.now.world) (world_of forms.new.now.world) table.old scope }
+    ensures old { IfOk result (λ r. ArePlaceWays (world_of forms.entry.old.now.world) table.new scope r.lists.items (get same_place r.old)) }
+    ensures new { IfOk result (λ r. ArePlaceWays (world_of forms.entry.new.now.world) table.new scope r.lists.items (get same_place r.new)) }
     ensures kept { Keeps table.old table.new }
 {
-    let mut lists = Vec::new(alloc);
-    let before = positions_alone(alloc, fates, old, scope, table, &mut lists)?;
-    let taken = Taken {
-        names: like,
-        positions: &before,
+    let old = ScopedNetwork {
+        fates: forms.fates,
+        form: forms.old,
+        scope,
     };
-    let after = positions_of(alloc, fates, new, taken, scope, table, &mut lists)?;
+    let before = ways_alone(alloc, old, table)?;
+    let NetworkWays { lists, positions } = before;
+    let taken = Taken {
+        names: forms.like,
+        positions: &positions,
+    };
+    let new = ScopedNetwork {
+        fates: forms.fates,
+        form: forms.new,
+        scope,
+    };
+    let after = ways_beside(alloc, new, taken, lists, table)?;
     Ok(BothWays {
-        lists,
-        old: before,
-        new: after,
+        lists: after.lists,
+        old: positions,
+        new: after.positions,
     })
 }
 
-// The positions of the places of a network that shares its ways with no other.
-fn positions_alone<'a>(
+/// The same of one network.
+///
+/// # Errors
+///
+/// There was no memory.
+pub fn ways_of_one<'a>(
     alloc: Global,
     fates: &'a Fates,
-    network: &'a NetworkForm<'a>,
+    form: &'a NetworkForm<'a>,
     scope: u32,
     table: &mut Diagrams,
-    lists: &mut Vec<PlaceWays>,
-) -> Result<IndexMap<Place, usize>, NoMemory>
-    requires form { IsNetworkForm table.old fates.now network.now }
-    requires scope { IsScopeOf (world_of network.now.world) table.old scope }
-    ensures positions { IfOk result (λ m. ArePositions (world_of network.now.world) table.new scope lists.new.items (get same_place m)) }
-    ensures lists { OnOk result (Extends lists.old.items lists.new.items) }
+) -> Result<NetworkWays, NoMemory>
+    requires form { IsNetworkForm table.old fates.now form.now }
+    requires scope { IsScopeOf (world_of form.now.world) table.old scope }
+    ensures ways { IfOk result (λ r. ArePlaceWays (world_of form.now.world) table.new scope r.lists.items (get same_place r.positions)) }
+    ensures kept { Keeps table.old table.new }
+{
+    let network = ScopedNetwork { fates, form, scope };
+    let ways = ways_alone(alloc, network, table)?;
+    Ok(ways)
+}
+
+// The ways of the places of a network that shares them with no other.
+fn ways_alone<'a>(
+    alloc: Global,
+    network: ScopedNetwork<'a>,
+    table: &mut Diagrams,
+) -> Result<NetworkWays, NoMemory>
+    requires { IsScopedNetwork table.old network }
+    ensures positions { IfOk result (λ r. ArePositions (world_of network.entry.form.now.world) table.new network.entry.scope r.lists.items (get same_place r.positions)) }
     ensures kept { Keeps table.old table.new }
 {
     let names = IndexSet::new(alloc);
@@ -100,111 +131,80 @@ fn positions_alone<'a>(
         names: &names,
         positions: &positions,
     };
-    positions_of(alloc, fates, network, taken, scope, table, lists)
+    ways_beside(alloc, network, taken, Vec::new(alloc), table)
 }
 
-// The positions of the places of a network.
-fn positions_of<'a>(
+// The ways of the places of a network, behind these lists.
+fn ways_beside<'a>(
     alloc: Global,
-    fates: &'a Fates,
-    network: &'a NetworkForm<'a>,
+    network: ScopedNetwork<'a>,
     taken: Taken,
-    scope: u32,
+    lists: Vec<PlaceWays>,
     table: &mut Diagrams,
-    lists: &mut Vec<PlaceWays>,
-) -> Result<IndexMap<Place, usize>, NoMemory>
-    requires form { IsNetworkForm table.old fates.now network.now }
-    requires scope { IsScopeOf (world_of network.now.world) table.old scope }
-    requires taken { AreTaken (world_of network.now.world) table.old scope lists.old.items taken.names.now.keys (get same_place taken.positions.now) }
-    ensures positions { IfOk result (λ m. ArePositions (world_of network.now.world) table.new scope lists.new.items (get same_place m)) }
-    ensures lists { OnOk result (Extends lists.old.items lists.new.items) }
+) -> Result<NetworkWays, NoMemory>
+    requires network { IsScopedNetwork table.old network }
+    requires taken { AreTaken (world_of network.form.now.world) table.old network.scope lists.items taken.names.now.keys (get same_place taken.positions.now) }
+    ensures positions { IfOk result (λ r. ArePositions (world_of network.entry.form.now.world) table.new network.entry.scope r.lists.items (get same_place r.positions)) }
+    ensures lists { IfOk result (λ r. Extends lists.items r.lists.items) }
     ensures kept { Keeps table.old table.new }
 {
-    let mut positions = IndexMap::new(alloc);
-    let devices = network.world.network.devices.as_slice();
-    add_devices(
-        alloc,
-        fates,
-        network,
-        taken,
-        scope,
-        table,
-        devices,
+    let mut ways = NetworkWays {
         lists,
-        &mut positions,
-    )?;
-    Ok(positions)
+        positions: IndexMap::new(alloc),
+    };
+    let form = network.form;
+    let devices = form.world.network.devices.as_slice();
+    add_devices(alloc, network, taken, devices, table, &mut ways)?;
+    Ok(ways)
 }
 
-// Adds the positions of the places of these devices of the network.
+// Adds the ways of the places of these devices of the network.
 fn add_devices<'a>(
     alloc: Global,
-    fates: &'a Fates,
-    network: &'a NetworkForm<'a>,
+    network: ScopedNetwork<'a>,
     taken: Taken,
-    scope: u32,
-    table: &mut Diagrams,
     devices: &[NetDevice],
-    lists: &mut Vec<PlaceWays>,
-    positions: &mut IndexMap<Place, usize>,
+    table: &mut Diagrams,
+    ways: &mut NetworkWays,
 ) -> Result<(), NoMemory>
-    requires form { IsNetworkForm table.old fates.now network.now }
-    requires scope { IsScopeOf (world_of network.now.world) table.old scope }
-    requires taken { AreTaken (world_of network.now.world) table.old scope lists.old.items taken.names.now.keys (get same_place taken.positions.now) }
-    requires right { AreRight (world_of network.now.world) table.old scope lists.old.items (get same_place positions.old) }
-    ensures right { OnOk result (AreRight (world_of network.now.world) table.new scope lists.new.items (get same_place positions.new)) }
-    ensures done { OnOk result (AreDone (world_of network.now.world) (get same_place positions.new) (IsPlaceIn devices.now)) }
-    ensures lists { OnOk result (Extends lists.old.items lists.new.items) }
+    requires network { IsScopedNetwork table.old network }
+    requires taken { AreTaken (world_of network.form.now.world) table.old network.scope ways.old.lists.items taken.names.now.keys (get same_place taken.positions.now) }
+    requires right { AreRight (world_of network.form.now.world) table.old network.scope ways.old.lists.items (get same_place ways.old.positions) }
+    ensures right { OnOk result (AreRight (world_of network.entry.form.now.world) table.new network.entry.scope ways.new.lists.items (get same_place ways.new.positions)) }
+    ensures done { OnOk result (AreDone (world_of network.entry.form.now.world) (get same_place ways.new.positions) (IsPlaceIn devices.now)) }
+    ensures lists { OnOk result (Extends ways.old.lists.items ways.new.lists.items) }
     ensures kept { Keeps table.old table.new }
 {
     for device in devices {
-        let numbers = device.numbers.as_slice();
-        add_device(
-            alloc,
-            fates,
-            network,
-            taken,
-            scope,
-            table,
-            device.name,
-            numbers,
-            lists,
-            positions,
-        )?;
+        add_device(alloc, network, taken, device, table, ways)?;
     }
     Ok(())
 }
 
-// Of the places with these numbers of the device of this name.
+// Of the places of this device.
 fn add_device<'a>(
     alloc: Global,
-    fates: &'a Fates,
-    network: &'a NetworkForm<'a>,
+    network: ScopedNetwork<'a>,
     taken: Taken,
-    scope: u32,
+    device: &NetDevice,
     table: &mut Diagrams,
-    name: u32,
-    numbers: &[u32],
-    lists: &mut Vec<PlaceWays>,
-    positions: &mut IndexMap<Place, usize>,
+    ways: &mut NetworkWays,
 ) -> Result<(), NoMemory>
-    requires form { IsNetworkForm table.old fates.now network.now }
-    requires scope { IsScopeOf (world_of network.now.world) table.old scope }
-    requires taken { AreTaken (world_of network.now.world) table.old scope lists.old.items taken.names.now.keys (get same_place taken.positions.now) }
-    requires right { AreRight (world_of network.now.world) table.old scope lists.old.items (get same_place positions.old) }
-    ensures right { OnOk result (AreRight (world_of network.now.world) table.new scope lists.new.items (get same_place positions.new)) }
-    ensures done { OnOk result (AreDone (world_of network.now.world) (get same_place positions.new) (IsNumbered name numbers.now)) }
-    ensures losing { OnOk result (LosesNone (get same_place positions.old) (get same_place positions.new)) }
-    ensures lists { OnOk result (Extends lists.old.items lists.new.items) }
+    requires network { IsScopedNetwork table.old network }
+    requires taken { AreTaken (world_of network.form.now.world) table.old network.scope ways.old.lists.items taken.names.now.keys (get same_place taken.positions.now) }
+    requires right { AreRight (world_of network.form.now.world) table.old network.scope ways.old.lists.items (get same_place ways.old.positions) }
+    ensures right { OnOk result (AreRight (world_of network.entry.form.now.world) table.new network.entry.scope ways.new.lists.items (get same_place ways.new.positions)) }
+    ensures done { OnOk result (AreDone (world_of network.entry.form.now.world) (get same_place ways.new.positions) (IsNumbered device.now.name device.now.numbers)) }
+    ensures losing { OnOk result (LosesNone (get same_place ways.old.positions) (get same_place ways.new.positions)) }
+    ensures lists { OnOk result (Extends ways.old.lists.items ways.new.lists.items) }
     ensures kept { Keeps table.old table.new }
 {
-    if has_name(taken.names, name) {
-        take_positions(taken.positions, name, numbers, positions)?;
+    let numbers = device.numbers.as_slice();
+    if has_name(taken.names, device.name) {
+        take_positions(taken.positions, device.name, numbers, &mut ways.positions)?;
         return Ok(());
     }
-    add_places(
-        alloc, fates, network, scope, table, name, numbers, lists, positions,
-    )?;
+    add_places(alloc, network, device.name, numbers, table, ways)?;
     Ok(())
 }
 
@@ -236,22 +236,18 @@ fn position_in(positions: &IndexMap<Place, usize>, place: Place) -> Option<usize
 // With the ways that are found for them.
 fn add_places<'a>(
     alloc: Global,
-    fates: &'a Fates,
-    network: &'a NetworkForm<'a>,
-    scope: u32,
-    table: &mut Diagrams,
+    network: ScopedNetwork<'a>,
     name: u32,
     numbers: &[u32],
-    lists: &mut Vec<PlaceWays>,
-    positions: &mut IndexMap<Place, usize>,
+    table: &mut Diagrams,
+    ways: &mut NetworkWays,
 ) -> Result<(), NoMemory>
-    requires form { IsNetworkForm table.old fates.now network.now }
-    requires scope { IsScopeOf (world_of network.now.world) table.old scope }
-    requires right { AreRight (world_of network.now.world) table.old scope lists.old.items (get same_place positions.old) }
-    ensures right { OnOk result (AreRight (world_of network.now.world) table.new scope lists.new.items (get same_place positions.new)) }
-    ensures done { OnOk result (AreDone (world_of network.now.world) (get same_place positions.new) (IsNumbered name numbers.now)) }
-    ensures losing { OnOk result (LosesNone (get same_place positions.old) (get same_place positions.new)) }
-    ensures lists { OnOk result (Extends lists.old.items lists.new.items) }
+    requires network { IsScopedNetwork table.old network }
+    requires right { AreRight (world_of network.form.now.world) table.old network.scope ways.old.lists.items (get same_place ways.old.positions) }
+    ensures right { OnOk result (AreRight (world_of network.entry.form.now.world) table.new network.entry.scope ways.new.lists.items (get same_place ways.new.positions)) }
+    ensures done { OnOk result (AreDone (world_of network.entry.form.now.world) (get same_place ways.new.positions) (IsNumbered name numbers.now)) }
+    ensures losing { OnOk result (LosesNone (get same_place ways.old.positions) (get same_place ways.new.positions)) }
+    ensures lists { OnOk result (Extends ways.old.lists.items ways.new.lists.items) }
     ensures kept { Keeps table.old table.new }
 {
     let mut bases = Bases {
@@ -263,60 +259,51 @@ fn add_places<'a>(
             device: name,
             interface: *number,
         };
-        add_place(
-            alloc, fates, network, scope, table, place, &mut bases, lists, positions,
-        )?;
+        add_place(alloc, network, place, table, &mut bases, ways)?;
     }
     Ok(())
 }
 
 fn add_place<'a>(
     alloc: Global,
-    fates: &'a Fates,
-    network: &'a NetworkForm<'a>,
-    scope: u32,
-    table: &mut Diagrams,
+    network: ScopedNetwork<'a>,
     place: Place,
+    table: &mut Diagrams,
     bases: &mut Bases,
-    lists: &mut Vec<PlaceWays>,
-    positions: &mut IndexMap<Place, usize>,
+    ways: &mut NetworkWays,
 ) -> Result<(), NoMemory>
-    requires form { IsNetworkForm table.old fates.now network.now }
-    requires scope { IsScopeOf (world_of network.now.world) table.old scope }
-    requires bases { AreBasesOf (world_of network.now.world) table.old scope lists.old.items place.device bases.old }
-    requires right { AreRight (world_of network.now.world) table.old scope lists.old.items (get same_place positions.old) }
-    ensures right { OnOk result (AreRight (world_of network.now.world) table.new scope lists.new.items (get same_place positions.new)) }
-    ensures done { OnOk result (get same_place positions.new place ≡ None → DropsAll (world_of network.now.world) place) }
-    ensures losing { OnOk result (LosesNone (get same_place positions.old) (get same_place positions.new)) }
-    ensures bases { OnOk result (AreBasesOf (world_of network.now.world) table.new scope lists.new.items place.device bases.new) }
-    ensures lists { OnOk result (Extends lists.old.items lists.new.items) }
+    requires network { IsScopedNetwork table.old network }
+    requires bases { AreBasesOf (world_of network.form.now.world) table.old network.scope ways.old.lists.items place.device bases.old }
+    requires right { AreRight (world_of network.form.now.world) table.old network.scope ways.old.lists.items (get same_place ways.old.positions) }
+    ensures right { OnOk result (AreRight (world_of network.entry.form.now.world) table.new network.entry.scope ways.new.lists.items (get same_place ways.new.positions)) }
+    ensures done { OnOk result (get same_place ways.new.positions place ≡ None → DropsAll (world_of network.entry.form.now.world) place) }
+    ensures losing { OnOk result (LosesNone (get same_place ways.old.positions) (get same_place ways.new.positions)) }
+    ensures bases { OnOk result (AreBasesOf (world_of network.entry.form.now.world) table.new network.entry.scope ways.new.lists.items place.device bases.new) }
+    ensures lists { OnOk result (Extends ways.old.lists.items ways.new.lists.items) }
     ensures kept { Keeps table.old table.new }
 {
-    let position = position_at(alloc, fates, network, scope, table, place, bases, lists)?;
-    put_position(positions, place, position)?;
+    let position = position_at(alloc, network, place, table, bases, &mut ways.lists)?;
+    put_position(&mut ways.positions, place, position)?;
     Ok(())
 }
 
 // The position of the ways of the place; none where the network has nothing there.
 fn position_at<'a>(
     alloc: Global,
-    fates: &'a Fates,
-    network: &'a NetworkForm<'a>,
-    scope: u32,
-    table: &mut Diagrams,
+    network: ScopedNetwork<'a>,
     place: Place,
+    table: &mut Diagrams,
     bases: &mut Bases,
     lists: &mut Vec<PlaceWays>,
 ) -> Result<Option<usize>, NoMemory>
-    requires form { IsNetworkForm table.old fates.now network.now }
-    requires scope { IsScopeOf (world_of network.now.world) table.old scope }
-    requires bases { AreBasesOf (world_of network.now.world) table.old scope lists.old.items place.device bases.old }
-    ensures position { IfOk result (IsPosition (world_of network.now.world) table.new scope lists.new.items place) }
-    ensures bases { OnOk result (AreBasesOf (world_of network.now.world) table.new scope lists.new.items place.device bases.new) }
+    requires network { IsScopedNetwork table.old network }
+    requires bases { AreBasesOf (world_of network.form.now.world) table.old network.scope lists.old.items place.device bases.old }
+    ensures position { IfOk result (IsPosition (world_of network.entry.form.now.world) table.new network.entry.scope lists.new.items place) }
+    ensures bases { OnOk result (AreBasesOf (world_of network.entry.form.now.world) table.new network.entry.scope lists.new.items place.device bases.new) }
     ensures lists { OnOk result (Extends lists.old.items lists.new.items) }
     ensures kept { Keeps table.old table.new }
 {
-    let Some(at) = seat_at(fates, network, place, scope) else {
+    let Some(at) = seat_at(network, place) else {
         return Ok(None);
     };
     let position = seat_position(alloc, table, at, bases, lists)?;

@@ -10,6 +10,7 @@ mod sets;
 mod stamps;
 mod stop;
 mod text;
+mod values;
 
 use crate::stop::Stop;
 use std::io;
@@ -23,7 +24,8 @@ fn show_all(rt: &HostRuntime) -> Result<(), Stop> {
     stamps::show(rt)?;
     rows::show(rt)?;
     diagrams::show(rt)?;
-    sets::show(rt)
+    sets::show(rt)?;
+    values::show(rt)
 }
 
 fn main(rt: HostRuntime) -> io::Result<()> {

@@ -23,7 +23,7 @@ returns-clause-seat c =
 
 pub returns-clause-form : goal.returns-clause-form
 returns-clause-form c =
-    let n = c.args.network.now in
+    let n = c.args.network.form.now in
     let d = c.in-Some.formed.device.now in
     let f = c.in-Some.formed.form.now in
     let one = c.in-Some-formed_numbered.one in

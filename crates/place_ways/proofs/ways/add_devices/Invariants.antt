@@ -10,7 +10,7 @@ use Rattle.place_ways.proofs.ways.add_devices.Given as goal
 abbrev pub invariant-loop-device : goal.invariant-loop-device
 invariant-loop-device l = record {
   kept : Keeps l.fn.table l.table;
-  lists : Extends l.fn.lists.items l.lists.items;
-  right : AreRight (world_of l.network.world) l.table l.scope l.lists.items (get same_place l.positions);
-  done : AreDone (world_of l.network.world) (get same_place l.positions) (IsPlaceIn (take l.device-index l.devices));
+  lists : Extends l.fn.ways.lists.items l.ways.lists.items;
+  right : AreRight (world_of l.network.form.now.world) l.table l.network.scope l.ways.lists.items (get same_place l.ways.positions);
+  done : AreDone (world_of l.network.form.now.world) (get same_place l.ways.positions) (IsPlaceIn (take l.device-index l.devices));
 }

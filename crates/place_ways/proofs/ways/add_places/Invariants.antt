@@ -10,9 +10,9 @@ use Rattle.place_ways.proofs.ways.add_places.Given as goal
 abbrev pub invariant-loop-number : goal.invariant-loop-number
 invariant-loop-number l = record {
   kept : Keeps l.fn.table l.table;
-  lists : Extends l.fn.lists.items l.lists.items;
-  right : AreRight (world_of l.network.world) l.table l.scope l.lists.items (get same_place l.positions);
-  done : AreDone (world_of l.network.world) (get same_place l.positions) (IsNumbered l.name (take l.number-index l.numbers));
-  losing : LosesNone (get same_place l.fn.positions) (get same_place l.positions);
-  bases : AreBasesOf (world_of l.network.world) l.table l.scope l.lists.items l.name l.bases;
+  lists : Extends l.fn.ways.lists.items l.ways.lists.items;
+  right : AreRight (world_of l.network.form.now.world) l.table l.network.scope l.ways.lists.items (get same_place l.ways.positions);
+  done : AreDone (world_of l.network.form.now.world) (get same_place l.ways.positions) (IsNumbered l.name (take l.number-index l.numbers));
+  losing : LosesNone (get same_place l.fn.ways.positions) (get same_place l.ways.positions);
+  bases : AreBasesOf (world_of l.network.form.now.world) l.table l.network.scope l.ways.lists.items l.name l.bases;
 }
