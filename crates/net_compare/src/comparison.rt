@@ -1,12 +1,9 @@
 //! The report on two networks.
 
-ghost use Rattle.std.specs.Prelude.{◌≡◌, ◌<◌, ◌≤◌, ◌^◌, ℕ, All, IfOk, IfSome, Some, length};
-ghost use Rattle.like_devices.specs.Like.{IsLike};
-ghost use Rattle.net_forms.specs.Networks.{IsNetworkForm};
-ghost use Rattle.net_forms.specs.Pairs.{ArePreparedParts};
+ghost use Rattle.std.specs.Prelude.{◌≡◌, ◌<◌, ◌≤◌, ◌^◌, ℕ, IfOk, IfSome, length};
+ghost use Rattle.net_forms.specs.Pairs.{AreBothForms, ArePreparedParts};
 ghost use Rattle.net_types.specs.Report.{IsReport};
 ghost use Rattle.net_types.specs.World.{World};
-ghost use Rattle.pair_rows.specs.declared.leaves.SlotRows.{SlotRows};
 ghost use Rattle.net_compare.specs.Slots.{AreRowsOfSlots, affected_in};
 ghost use Rattle.net_view.specs.Borrowed.{world_of};
 ghost use Rattle.set_walk.specs.Scopes.{AreAlikeBeyond};
@@ -14,17 +11,16 @@ ghost use Rattle.place_ways.specs.Places.{ArePlaceWays};
 ghost use Rattle.indexmap.specs.IndexMap.{get};
 ghost use Rattle.net_types.specs.World.{same_place};
 ghost use Rattle.net_compare.specs.Networks.{world};
-ghost use Rattle.net_compare.specs.Walkable.{AreWalkable};
+ghost use Rattle.net_compare.specs.Walkable.{AreWalkable, gives_of};
 
 use crate::compared::Compared;
+use crate::slots::Slots;
 use crate::source::Ingresses;
 use change_scope::scope_of;
 use cube_diagram::Diagrams;
-use device_fates::Fates;
 use difference_reach::Reach;
-use indexmap::IndexSet;
 use list_tables::prepared_by_workers;
-use net_forms::{NetworkForm, PreparedParts, Tables};
+use net_forms::{BothForms, Networks, PreparedParts, Tables};
 use net_types::{Links, List, Network, NoMemory, Place, Section};
 use net_view::WorldRef;
 use pair_rows::{Pairing, SlotRows, rows_by_workers};
@@ -34,7 +30,7 @@ use std::alloc::Global;
 use std::marker::Brand;
 use std::sync::Wait;
 use std::thread::Threads;
-use steal_pool::Gate;
+use steal_pool::{Gate, Workers};
 use table_twins::{Base, Twins};
 
 /// The scope of a change, with the ways of all places of both networks for its headers.
@@ -48,87 +44,61 @@ pub struct ScopedWays {
 /// The report on two networks with the same links: for each ingress, in order, the canonical rows of exactly the
 /// headers whose outcomes under this TTL differ, each with its two labels.
 ///
-/// The work is done by 1 to 64 workers, each of which passes the gate before it works on a region; the report is the same for
-/// each number of them. The TTL is at least 1. It answers `NoMemory` only where there was none.
+/// The report is the same for each number of workers. The TTL is at least 1. It answers `NoMemory` only where there was none.
 pub fn compare<G: Gate + Sync, R: Threads + Wait + Sync>(
-    rt: &R,
+    by: &Workers<R, G>,
     alloc: Global,
     old: &Network,
     new: &Network,
     links: &Links,
     ttl: u8,
-    workers: u32,
-    gate: &G,
 ) -> Result<Vec<Section>, NoMemory>
-    requires ttl { 1 ≤ ttl }
-    requires workers { (1 ≤ workers) × (workers ≤ 64) }
+    requires { 1 ≤ ttl }
     ensures { IfOk result (λ sections. IsReport links.now.ingress (world old.now links.now) (world new.now links.now) ttl sections.items) }
 {
-    let before = WorldRef {
-        network: old,
-        links,
+    let networks = Networks {
+        old: WorldRef {
+            network: old,
+            links,
+        },
+        new: WorldRef {
+            network: new,
+            links,
+        },
     };
-    let after = WorldRef {
-        network: new,
-        links,
-    };
-    compare_worlds(
-        rt,
-        alloc,
-        before,
-        after,
-        links.ingress.as_slice(),
-        ttl,
-        workers,
-        gate,
-    )
+    compare_worlds(by, alloc, networks, links.ingress.as_slice(), ttl)
 }
 
 /// The same of two networks with links of their own, for these ingresses.
 pub fn compare_worlds<G: Gate + Sync, R: Threads + Wait + Sync>(
-    rt: &R,
+    by: &Workers<R, G>,
     alloc: Global,
-    before: WorldRef,
-    after: WorldRef,
+    networks: Networks,
     ingress: &[Place],
     ttl: u8,
-    workers: u32,
-    gate: &G,
 ) -> Result<Vec<Section>, NoMemory>
-    requires ttl { 1 ≤ ttl }
-    requires workers { (1 ≤ workers) × (workers ≤ 64) }
-    ensures { IfOk result (λ sections. IsReport ingress.now (world_of before.entry) (world_of after.entry) ttl sections.items) }
+    requires { 1 ≤ ttl }
+    ensures { IfOk result (λ sections. IsReport ingress.now (world_of networks.entry.old) (world_of networks.entry.new) ttl sections.items) }
 {
     // A slot has a number of 32 bits.
     if ingress.len() > u32::MAX as usize {
         return Err(NoMemory);
     }
-    let prepared = prepared_by_workers(rt, alloc, before, after, workers)?;
-    let sections = sections_prepared(
-        rt,
-        alloc,
-        prepared.into_parts(),
-        ttl,
-        ingress,
-        workers,
-        gate,
-    )?;
+    let prepared = prepared_by_workers(by, alloc, networks)?;
+    let sections = sections_prepared(by, alloc, prepared.into_parts(), ingress, ttl)?;
     Ok(sections)
 }
 
 // The sections of two compiled networks.
 fn sections_prepared<G: Gate + Sync, R: Threads + Wait + Sync>(
-    rt: &R,
+    by: &Workers<R, G>,
     alloc: Global,
     parts: PreparedParts,
-    ttl: u8,
     ingress: &[Place],
-    workers: u32,
-    gate: &G,
+    ttl: u8,
 ) -> Result<Vec<Section>, NoMemory>
     requires ttl { 1 ≤ ttl }
     requires few { length ingress.now < 2 ^ 32 }
-    requires workers { (1 ≤ workers) × (workers ≤ 64) }
     requires parts { ArePreparedParts (record { old = world_of parts.old.world; new = world_of parts.new.world }) parts }
     ensures { IfOk result (λ sections. IsReport ingress.now (world_of parts.entry.old.world) (world_of parts.entry.new.world) ttl sections.items) }
 {
@@ -142,10 +112,22 @@ fn sections_prepared<G: Gate + Sync, R: Threads + Wait + Sync>(
         mut diagrams,
         fates,
     } = tables;
-    let scoped = scoped_ways(alloc, &fates, &old, &new, &like, &mut diagrams)?;
-    let sections = sections_by(
-        rt, alloc, diagrams, old.world, new.world, &scoped, ttl, ingress, workers, gate,
-    )?;
+    let forms = BothForms {
+        fates: &fates,
+        old: &old,
+        new: &new,
+        like: &like,
+    };
+    let scoped = scoped_ways(alloc, forms, &mut diagrams)?;
+    let networks = Networks {
+        old: old.world,
+        new: new.world,
+    };
+    let walked = Walked {
+        networks,
+        scoped: &scoped,
+    };
+    let sections = sections_by(by, alloc, diagrams, walked, ingress, ttl)?;
     Ok(sections)
 }
 
@@ -154,191 +136,156 @@ fn sections_prepared<G: Gate + Sync, R: Threads + Wait + Sync>(
 /// It answers `NoMemory` only where there was none.
 pub fn scoped_ways<'a>(
     alloc: Global,
-    fates: &'a Fates,
-    old: &'a NetworkForm<'a>,
-    new: &'a NetworkForm<'a>,
-    like: &IndexSet<u32>,
+    forms: BothForms<'a>,
     table: &mut Diagrams,
 ) -> Result<ScopedWays, NoMemory>
-    requires old { IsNetworkForm table.old fates.now old.now }
-    requires new { IsNetworkForm table.old fates.now new.now }
-    requires like { All (IsLike (world_of old.now.world) (world_of new.now.world)) like.now.keys }
-    ensures old { IfOk result (λ r. ArePlaceWays (world_of old.now.world) table.new r.scope r.ways.lists.items (get same_place r.ways.old)) }
-    ensures new { IfOk result (λ r. ArePlaceWays (world_of new.now.world) table.new r.scope r.ways.lists.items (get same_place r.ways.new)) }
-    ensures beyond { IfOk result (λ r. AreAlikeBeyond (world_of old.now.world) (world_of new.now.world) table.new r.scope) }
+    requires { AreBothForms table.old forms }
+    ensures old { IfOk result (λ r. ArePlaceWays (world_of forms.entry.old.now.world) table.new r.scope r.ways.lists.items (get same_place r.ways.old)) }
+    ensures new { IfOk result (λ r. ArePlaceWays (world_of forms.entry.new.now.world) table.new r.scope r.ways.lists.items (get same_place r.ways.new)) }
+    ensures beyond { IfOk result (λ r. AreAlikeBeyond (world_of forms.entry.old.now.world) (world_of forms.entry.new.now.world) table.new r.scope) }
 {
-    let scope = scope_of(alloc, fates, old, new, like, table)?;
-    let ways = ways_of_both(alloc, fates, old, new, like, scope, table)?;
+    let scope = scope_of(alloc, forms.fates, forms.old, forms.new, forms.like, table)?;
+    let ways = ways_of_both(alloc, forms, scope, table)?;
     Ok(ScopedWays { scope, ways })
 }
 
-// By the ways of all places for the headers of a scope, outside which the two networks do the same.
+// Two networks with the ways of all places for the headers of a scope, outside which they do the same.
+#[derive(Clone, Copy)]
+struct Walked<'a> {
+    networks: Networks<'a>,
+    scoped: &'a ScopedWays,
+}
+
+// By these ways.
 fn sections_by<G: Gate + Sync, R: Threads + Wait + Sync>(
-    rt: &R,
+    by: &Workers<R, G>,
     alloc: Global,
     mut table: Diagrams,
-    before: WorldRef,
-    after: WorldRef,
-    scoped: &ScopedWays,
-    ttl: u8,
+    walked: Walked,
     ingress: &[Place],
-    workers: u32,
-    gate: &G,
+    ttl: u8,
 ) -> Result<Vec<Section>, NoMemory>
     requires ttl { 1 ≤ ttl }
     requires few { length ingress.now < 2 ^ 32 }
-    requires workers { (1 ≤ workers) × (workers ≤ 64) }
-    requires old { ArePlaceWays (world_of before) table scoped.now.scope scoped.now.ways.lists.items (get same_place scoped.now.ways.old) }
-    requires new { ArePlaceWays (world_of after) table scoped.now.scope scoped.now.ways.lists.items (get same_place scoped.now.ways.new) }
-    requires beyond { AreAlikeBeyond (world_of before) (world_of after) table scoped.now.scope }
-    ensures { IfOk result (λ sections. IsReport ingress.now (world_of before.entry) (world_of after.entry) ttl sections.items) }
+    requires old { ArePlaceWays (world_of walked.networks.old) table walked.scoped.now.scope walked.scoped.now.ways.lists.items (get same_place walked.scoped.now.ways.old) }
+    requires new { ArePlaceWays (world_of walked.networks.new) table walked.scoped.now.scope walked.scoped.now.ways.lists.items (get same_place walked.scoped.now.ways.new) }
+    requires beyond { AreAlikeBeyond (world_of walked.networks.old) (world_of walked.networks.new) table walked.scoped.now.scope }
+    ensures { IfOk result (λ sections. IsReport ingress.now (world_of walked.entry.networks.old) (world_of walked.entry.networks.new) ttl sections.items) }
 {
-    let ways = &scoped.ways;
+    let scope = walked.scoped.scope;
+    let ways = &walked.scoped.ways;
     let old = Net {
-        world: before,
+        world: walked.networks.old,
         places: &ways.old,
         lists: &ways.lists,
-        scope: scoped.scope,
+        scope,
     };
     let new = Net {
-        world: after,
+        world: walked.networks.new,
         places: &ways.new,
         lists: &ways.lists,
-        scope: scoped.scope,
+        scope,
     };
     let reach = Reach::of(alloc, &mut table, &old, &new)?;
-    let sections = sections_at(
-        rt, alloc, table, &old, &new, &reach, ttl, ingress, workers, gate,
-    )?;
+    let compared = Compared {
+        old: &old,
+        new: &new,
+        reach: &reach,
+        ingress,
+        ttl,
+    };
+    let sections = sections_at(by, alloc, table, &compared)?;
     Ok(sections)
 }
 
 // The sections of the ingresses, in their order. What each header is given in each slot is named for it by a type.
 fn sections_at<G: Gate + Sync, R: Threads + Wait + Sync>(
-    rt: &R,
+    by: &Workers<R, G>,
     alloc: Global,
     table: Diagrams,
-    old: &Net,
-    new: &Net,
-    reach: &Reach,
-    ttl: u8,
-    ingress: &[Place],
-    workers: u32,
-    gate: &G,
+    compared: &Compared,
 ) -> Result<Vec<Section>, NoMemory>
-    requires nets { AreWalkable table old.now new.now reach.now }
-    requires ttl { 1 ≤ ttl }
-    requires few { length ingress.now < 2 ^ 32 }
-    requires workers { (1 ≤ workers) × (workers ≤ 64) }
-    ensures { IfOk result (λ sections. IsReport ingress.now (world_of old.now.world) (world_of new.now.world) ttl sections.items) }
+    requires { AreWalkable table compared.now }
+    ensures { IfOk result (λ sections. IsReport compared.now.ingress.now (world_of compared.now.old.now.world) (world_of compared.now.new.now.world) compared.now.ttl sections.items) }
 {
-    sections_named::<Brand, G, R>(
-        rt, alloc, table, old, new, reach, ttl, ingress, workers, gate,
-    )
+    sections_named::<Brand, G, R>(by, alloc, table, compared)
 }
 
 fn sections_named<K: Pairing + Base + Send + Sync, G: Gate + Sync, R: Threads + Wait + Sync>(
-    rt: &R,
+    by: &Workers<R, G>,
     alloc: Global,
     table: Diagrams,
-    old: &Net,
-    new: &Net,
-    reach: &Reach,
-    ttl: u8,
-    ingress: &[Place],
-    workers: u32,
-    gate: &G,
+    compared: &Compared,
 ) -> Result<Vec<Section>, NoMemory>
-    requires nets { AreWalkable table old.now new.now reach.now }
-    requires ttl { 1 ≤ ttl }
-    requires few { length ingress.now < 2 ^ 32 }
-    requires workers { (1 ≤ workers) × (workers ≤ 64) }
+    requires nets { AreWalkable table compared.now }
     requires base { K.base ≡ table }
-    requires gives { K.gives ≡ affected_in (world_of old.now.world) (world_of new.now.world) ttl ingress.now }
-    ensures { IfOk result (λ sections. IsReport ingress.now (world_of old.now.world) (world_of new.now.world) ttl sections.items) }
+    requires gives { K.gives ≡ gives_of compared.now }
+    ensures { IfOk result (λ sections. IsReport compared.now.ingress.now (world_of compared.now.old.now.world) (world_of compared.now.new.now.world) compared.now.ttl sections.items) }
 {
-    let compared: Compared<K> = Compared::of(old, new, reach, ttl, ingress);
-    let all = rows_of(rt, alloc, table, &compared, workers, gate)?;
-    let sections = sections_of(alloc, ingress, all)?;
+    let slots: Slots<K> = Slots::of(compared);
+    let all = rows_of(by, alloc, table, &slots)?;
+    let sections = sections_of(alloc, compared.ingress, all)?;
     Ok(sections)
 }
 
 // The rows of each ingress. One who walks alone walks in the table itself, several in copies.
 fn rows_of<K: Pairing + Base + Send + Sync, G: Gate + Sync, R: Threads + Wait + Sync>(
-    rt: &R,
+    by: &Workers<R, G>,
     alloc: Global,
     table: Diagrams,
-    compared: &Compared<K>,
-    workers: u32,
-    gate: &G,
+    slots: &Slots<K>,
 ) -> Result<Vec<SlotRows>, NoMemory>
-    requires few { length compared.now < 2 ^ 32 }
-    requires workers { (1 ≤ workers) × (workers ≤ 64) }
-    requires base { K.base ≡ table }
-    ensures { IfOk result (λ all. AreRowsOfSlots K.gives (length compared.now) all.items) }
+    requires { K.base ≡ table }
+    ensures { IfOk result (λ all. AreRowsOfSlots K.gives (length slots.now) all.items) }
 {
-    if workers == 1 || compared.count() < 2 {
-        return rows_alone(rt, alloc, table, compared, workers, gate);
+    if by.count == 1 || slots.count() < 2 {
+        return rows_alone(by, alloc, table, slots);
     }
-    rows_shared(rt, alloc, &table, compared, workers, gate)
+    rows_shared(by, alloc, &table, slots)
 }
 
 fn rows_alone<K: Pairing + Base + Send + Sync, G: Gate + Sync, R: Threads + Wait + Sync>(
-    rt: &R,
+    by: &Workers<R, G>,
     alloc: Global,
     table: Diagrams,
-    compared: &Compared<K>,
-    workers: u32,
-    gate: &G,
+    slots: &Slots<K>,
 ) -> Result<Vec<SlotRows>, NoMemory>
-    requires few { length compared.now < 2 ^ 32 }
-    requires workers { (1 ≤ workers) × (workers ≤ 64) }
-    requires base { K.base ≡ table }
-    ensures { IfOk result (λ all. AreRowsOfSlots K.gives (length compared.now) all.items) }
+    requires { K.base ≡ table }
+    ensures { IfOk result (λ all. AreRowsOfSlots K.gives (length slots.now) all.items) }
 {
     let twins: Twins<K> = Twins::of(alloc, table)?;
-    let all = rows_in(rt, alloc, None, &twins, compared, workers, gate)?;
+    let all = rows_in(by, alloc, None, &twins, slots)?;
     Ok(all)
 }
 
 fn rows_shared<K: Pairing + Base + Send + Sync, G: Gate + Sync, R: Threads + Wait + Sync>(
-    rt: &R,
+    by: &Workers<R, G>,
     alloc: Global,
     table: &Diagrams,
-    compared: &Compared<K>,
-    workers: u32,
-    gate: &G,
+    slots: &Slots<K>,
 ) -> Result<Vec<SlotRows>, NoMemory>
-    requires few { length compared.now < 2 ^ 32 }
-    requires workers { (1 ≤ workers) × (workers ≤ 64) }
-    requires base { K.base ≡ table.now }
-    ensures { IfOk result (λ all. AreRowsOfSlots K.gives (length compared.now) all.items) }
+    requires { K.base ≡ table.now }
+    ensures { IfOk result (λ all. AreRowsOfSlots K.gives (length slots.now) all.items) }
 {
     let twins: Twins<K> = Twins::new(alloc);
-    let all = rows_in(rt, alloc, Some(table), &twins, compared, workers, gate)?;
+    let all = rows_in(by, alloc, Some(table), &twins, slots)?;
     Ok(all)
 }
 
 // By workers who walk in these twins of the base.
 fn rows_in<K: Pairing + Base + Send + Sync, G: Gate + Sync, R: Threads + Wait + Sync>(
-    rt: &R,
+    by: &Workers<R, G>,
     alloc: Global,
     base: Option<&Diagrams>,
     twins: &Twins<K>,
-    compared: &Compared<K>,
-    workers: u32,
-    gate: &G,
+    slots: &Slots<K>,
 ) -> Result<Vec<SlotRows>, NoMemory>
-    requires few { length compared.now < 2 ^ 32 }
-    requires workers { (1 ≤ workers) × (workers ≤ 64) }
-    requires base { IfSome base (λ b. K.base ≡ b.now) }
-    ensures { IfOk result (λ all. AreRowsOfSlots K.gives (length compared.now) all.items) }
+    requires { IfSome base (λ b. K.base ≡ b.now) }
+    ensures { IfOk result (λ all. AreRowsOfSlots K.gives (length slots.now) all.items) }
 {
-    let source: Ingresses<R, K> = Ingresses::of(rt, base, twins, compared);
-    let slots = compared.count();
-    let all = rows_by_workers::<Ingresses<R, K>, K, G, R>(
-        rt, alloc, &source, slots, workers, gate,
-    )?;
+    let source: Ingresses<R, K> = Ingresses::of(by.rt, base, twins, slots);
+    let count = slots.count();
+    let all = rows_by_workers::<Ingresses<R, K>, K, G, R>(by, alloc, &source, count)?;
     Ok(all)
 }
 

@@ -11,6 +11,7 @@ mod comparison;
 mod ingress;
 pub mod laws;
 mod pairs;
+mod slots;
 mod source;
 
 pub use comparison::{ScopedWays, compare, compare_worlds, scoped_ways};

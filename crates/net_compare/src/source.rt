@@ -2,7 +2,7 @@
 
 ghost use Rattle.std.specs.Prelude.{◌≡◌, IfSome};
 
-use crate::compared::Compared;
+use crate::slots::Slots;
 use cube_diagram::Diagrams;
 use net_types::NoMemory;
 use pair_rows::{PairFunction, PairSource, Pairing};
@@ -17,7 +17,7 @@ pub(crate) struct Ingresses<'a, R, K: Pairing + Base> {
     rt: &'a R,
     base: Option<&'a Diagrams>,
     twins: &'a Twins<K>,
-    compared: &'a Compared<'a, K>,
+    slots: &'a Slots<'a, K>,
 }
 
 impl<'a, R, K: Pairing + Base> Model for Ingresses<'a, R, K> {
@@ -27,7 +27,7 @@ impl<'a, R, K: Pairing + Base> Model for Ingresses<'a, R, K> {
     // Contracts see the ingresses.
     ghost Value = { List Place };
 
-    ghost view = { λ s. s.compared.now };
+    ghost view = { λ s. s.slots.now };
 
     ghost invariant = { λ s. IfSome s.base (λ b. K.base ≡ b.now) };
 }
@@ -37,7 +37,7 @@ impl<'a, R, K: Pairing + Base> Ingresses<'a, R, K> {
         rt: &'a R,
         base: Option<&'a Diagrams>,
         twins: &'a Twins<K>,
-        compared: &'a Compared<'a, K>,
+        slots: &'a Slots<'a, K>,
     ) -> Ingresses<'a, R, K>
         requires { IfSome base (λ b. K.base ≡ b.now) }
     {
@@ -45,7 +45,7 @@ impl<'a, R, K: Pairing + Base> Ingresses<'a, R, K> {
             rt,
             base,
             twins,
-            compared,
+            slots,
         }
     }
 }
@@ -54,7 +54,7 @@ impl<'a, R: Wait, K: Pairing + Base> PairSource<K> for Ingresses<'a, R, K> {
     // The table goes back also where there was no memory for the function, so that another worker finds it.
     fn function(&self, alloc: Global, slot: u32) -> Result<PairFunction, NoMemory> {
         let mut table = self.twins.take(self.rt, self.base)?;
-        let given = self.compared.function(alloc, &mut table, slot);
+        let given = self.slots.function(alloc, &mut table, slot);
         self.twins.give_back(self.rt, table);
         given
     }
