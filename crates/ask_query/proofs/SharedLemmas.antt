@@ -19,6 +19,8 @@ asked_kept f g a k i =
       filters = λ q c. filter_kept f g a.domain q k i.domain (i.filters q c);
       ttl = i.ttl;
       below = i.below;
+      each = i.each;
+      few = i.few;
     }
 
 -- the same by other names

@@ -1,6 +1,6 @@
 //! The answers to questions on a network, by walks of sets of headers.
 
-ghost use Rattle.std.specs.Prelude.{◌≡◌, ◌≤◌, ◌<◌, ℕ, All, IfOk, OnOk, length};
+ghost use Rattle.std.specs.Prelude.{◌<◌, ℕ, All, IfOk, OnOk, length};
 ghost use Rattle.hdr_bits.specs.declared.header.Header.{Header};
 ghost use Rattle.hdr_bits.specs.HeaderBits.{number, IsHeader};
 ghost use Rattle.hdr_bits.specs.CubeBits.{IsIn};
@@ -13,7 +13,6 @@ ghost use Rattle.set_walk.specs.Outcomes.{AreEndsBelow};
 ghost use Rattle.net_types.specs.declared.question.Question.{Question};
 ghost use Rattle.net_types.specs.Questions.{IsAnswer, ReachesNamed, Loops};
 ghost use Rattle.ask_query.specs.Reaching.{EndsNamed};
-ghost use Rattle.ask_query.specs.WholeNets.{IsWholeNet};
 ghost use Rattle.ask_query.specs.Breaking.{AreBreaking, HasFilter, HaveFilters, AreWalks};
 ghost use Rattle.ask_query.specs.Slots.{AnswerNumbers};
 ghost use Rattle.ask_query.specs.Shared.{IsAsked};
@@ -26,7 +25,7 @@ use hdr_bits::Cube;
 use indexmap::IndexMap;
 use net_types::{Answer, NoMemory, Place, Question, QuestionKind};
 use set_walk::sets::{both, either, without};
-use set_walk::{Net, OutcomeSet, labels};
+use set_walk::{OutcomeSet, labels};
 use std::alloc::Global;
 
 /// The ends of all walks from a place.
@@ -51,15 +50,7 @@ pub(crate) fn answers_within(
     let mut walks = IndexMap::new(alloc);
     let mut answers = Vec::new(alloc);
     for number in numbers {
-        let breaking = breaking(
-            alloc,
-            table,
-            asked.net,
-            asked.domain,
-            &mut walks,
-            &asked.questions[*number],
-            asked.ttl,
-        )?;
+        let breaking = breaking(alloc, table, asked, &mut walks, &asked.questions[*number])?;
         answers.push(answer_by(table, breaking))?;
     }
     Ok(answers)
@@ -80,33 +71,29 @@ fn answer_by(table: &Diagrams, breaking: u32) -> Answer
 fn breaking(
     alloc: Global,
     table: &mut Diagrams,
-    net: &Net,
-    domain: u32,
+    asked: &Asked,
     walks: &mut IndexMap<Place, WalkEnds>,
     question: &Question,
-    ttl: u8,
 ) -> Result<u32, NoMemory>
-    requires net { IsWholeNet table.old net.now }
-    requires domain { domain < count_of table.old }
-    requires filter { HasFilter table.old domain question.now }
-    requires walks { AreWalks (world_of net.now.world) ttl table.old domain (get same_place walks.old) }
-    requires ttl { 1 ≤ ttl }
+    requires asked { IsAsked table.old asked.now }
+    requires filter { HasFilter table.old asked.now.domain question.now }
+    requires walks { AreWalks (world_of asked.now.net.now.world) asked.now.ttl table.old asked.now.domain (get same_place walks.old) }
     ensures below { IfOk result (λ r. r < count_of table.new) }
-    ensures exact { IfOk result (AreBreaking (world_of net.now.world) ttl question.now table.new) }
-    ensures walks { OnOk result (AreWalks (world_of net.now.world) ttl table.new domain (get same_place walks.new)) }
+    ensures exact { IfOk result (AreBreaking (world_of asked.now.net.now.world) asked.now.ttl question.now table.new) }
+    ensures walks { OnOk result (AreWalks (world_of asked.now.net.now.world) asked.now.ttl table.new asked.now.domain (get same_place walks.new)) }
     ensures kept { Keeps table.old table.new }
 {
     match question.kind {
         QuestionKind::Reach => {
-            let set = not_reaching(alloc, table, net, domain, walks, question, ttl)?;
+            let set = not_reaching(alloc, table, asked, walks, question)?;
             Ok(set)
         }
         QuestionKind::Isolate => {
-            let set = reaching(alloc, table, net, domain, walks, question, ttl)?;
+            let set = reaching(alloc, table, asked, walks, question)?;
             Ok(set)
         }
         QuestionKind::NoLoop => {
-            let set = filtered_loops(alloc, table, net, question, ttl)?;
+            let set = filtered_loops(alloc, table, asked, question)?;
             Ok(set)
         }
     }
@@ -116,22 +103,19 @@ fn breaking(
 fn not_reaching(
     alloc: Global,
     table: &mut Diagrams,
-    net: &Net,
-    domain: u32,
+    asked: &Asked,
     walks: &mut IndexMap<Place, WalkEnds>,
     question: &Question,
-    ttl: u8,
 ) -> Result<u32, NoMemory>
-    requires net { IsWholeNet table.old net.now }
-    requires domain { domain < count_of table.old }
-    requires filter { HasFilter table.old domain question.now }
-    requires walks { AreWalks (world_of net.now.world) ttl table.old domain (get same_place walks.old) }
+    requires asked { IsAsked table.old asked.now }
+    requires filter { HasFilter table.old asked.now.domain question.now }
+    requires walks { AreWalks (world_of asked.now.net.now.world) asked.now.ttl table.old asked.now.domain (get same_place walks.old) }
     ensures below { IfOk result (λ r. r < count_of table.new) }
-    ensures exact { IfOk result (λ r. IsSetOf table.new r (λ h. IsIn question.now.filter (number h) × (ReachesNamed (world_of net.now.world) ttl question.now.from question.now.to h → ⊥))) }
-    ensures walks { OnOk result (AreWalks (world_of net.now.world) ttl table.new domain (get same_place walks.new)) }
+    ensures exact { IfOk result (λ r. IsSetOf table.new r (λ h. IsIn question.now.filter (number h) × (ReachesNamed (world_of asked.now.net.now.world) asked.now.ttl question.now.from question.now.to h → ⊥))) }
+    ensures walks { OnOk result (AreWalks (world_of asked.now.net.now.world) asked.now.ttl table.new asked.now.domain (get same_place walks.new)) }
     ensures kept { Keeps table.old table.new }
 {
-    let those = reaching(alloc, table, net, domain, walks, question, ttl)?;
+    let those = reaching(alloc, table, asked, walks, question)?;
     let filter = filter_set(table, &question.filter)?;
     let set = without(table, filter, those)?;
     Ok(set)
@@ -141,26 +125,30 @@ fn not_reaching(
 fn reaching(
     alloc: Global,
     table: &mut Diagrams,
-    net: &Net,
-    domain: u32,
+    asked: &Asked,
     walks: &mut IndexMap<Place, WalkEnds>,
     question: &Question,
-    ttl: u8,
 ) -> Result<u32, NoMemory>
-    requires net { IsWholeNet table.old net.now }
-    requires domain { domain < count_of table.old }
-    requires filter { HasFilter table.old domain question.now }
-    requires walks { AreWalks (world_of net.now.world) ttl table.old domain (get same_place walks.old) }
+    requires asked { IsAsked table.old asked.now }
+    requires filter { HasFilter table.old asked.now.domain question.now }
+    requires walks { AreWalks (world_of asked.now.net.now.world) asked.now.ttl table.old asked.now.domain (get same_place walks.old) }
     ensures below { IfOk result (λ r. r < count_of table.new) }
-    ensures exact { IfOk result (λ r. IsSetOf table.new r (λ h. IsIn question.now.filter (number h) × ReachesNamed (world_of net.now.world) ttl question.now.from question.now.to h)) }
-    ensures walks { OnOk result (AreWalks (world_of net.now.world) ttl table.new domain (get same_place walks.new)) }
+    ensures exact { IfOk result (λ r. IsSetOf table.new r (λ h. IsIn question.now.filter (number h) × ReachesNamed (world_of asked.now.net.now.world) asked.now.ttl question.now.from question.now.to h)) }
+    ensures walks { OnOk result (AreWalks (world_of asked.now.net.now.world) asked.now.ttl table.new asked.now.domain (get same_place walks.new)) }
     ensures kept { Keeps table.old table.new }
 {
     if let Some(walk) = walks.get(&question.from) {
         let set = ending(table, &walk.ends, question)?;
         return Ok(set);
     }
-    let ends = labels(alloc, table, net, question.from, domain, ttl)?;
+    let ends = labels(
+        alloc,
+        table,
+        asked.net,
+        question.from,
+        asked.domain,
+        asked.ttl,
+    )?;
     let set = ending(table, &ends, question)?;
     walks.insert(question.from, WalkEnds { ends })?;
     Ok(set)
@@ -183,18 +171,16 @@ fn ending(table: &mut Diagrams, ends: &[OutcomeSet], question: &Question) -> Res
 fn filtered_loops(
     alloc: Global,
     table: &mut Diagrams,
-    net: &Net,
+    asked: &Asked,
     question: &Question,
-    ttl: u8,
 ) -> Result<u32, NoMemory>
-    requires net { IsWholeNet table.old net.now }
-    requires ttl { 1 ≤ ttl }
+    requires { IsAsked table.old asked.now }
     ensures below { IfOk result (λ r. r < count_of table.new) }
-    ensures exact { IfOk result (λ r. IsSetOf table.new r (λ h. IsIn question.now.filter (number h) × Loops (world_of net.now.world) ttl question.now.from h)) }
+    ensures exact { IfOk result (λ r. IsSetOf table.new r (λ h. IsIn question.now.filter (number h) × Loops (world_of asked.now.net.now.world) asked.now.ttl question.now.from h)) }
     ensures kept { Keeps table.old table.new }
 {
     let filter = filter_set(table, &question.filter)?;
-    let set = looping(alloc, table, net, question.from, filter, ttl)?;
+    let set = looping(alloc, table, asked.net, question.from, filter, asked.ttl)?;
     Ok(set)
 }
 

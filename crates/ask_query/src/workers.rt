@@ -5,7 +5,6 @@ ghost use Rattle.net_types.specs.Questions.{AreAnswers};
 ghost use Rattle.net_view.specs.Borrowed.{world_of};
 ghost use Rattle.task_board.specs.Regions.{Holds, LieApart};
 ghost use Rattle.ask_query.specs.WholeNets.{IsWholeNet};
-ghost use Rattle.ask_query.specs.Slots.{HaveSlots};
 ghost use Rattle.ask_query.specs.Shared.{IsAsked, IsNamed};
 
 use crate::answering::{Answering, BySlots};
@@ -22,23 +21,20 @@ use std::alloc::Global;
 use std::marker::{Brand, PhantomData};
 use std::sync::Wait;
 use std::thread::Threads;
-use steal_pool::{Gate, roots_of, run};
+use steal_pool::{Gate, Workers, roots_of, run};
 use table_twins::{Base, Twins};
 
 /// The answers to the questions, in their order. A slot is worked on by one worker; what all share is made before.
 pub(crate) fn answers_by<G: Gate + Sync, R: Threads + Wait + Sync>(
-    rt: &R,
+    by: &Workers<R, G>,
     alloc: Global,
     mut table: Diagrams,
     net: &Net,
     questions: &[Question],
     ttl: u8,
-    workers: u32,
-    gate: &G,
 ) -> Result<Vec<Answer>, NoMemory>
     requires net { IsWholeNet table net.now }
     requires ttl { 1 ≤ ttl }
-    requires workers { (1 ≤ workers) × (workers ≤ 64) }
     ensures { IfOk result (λ answers. AreAnswers (world_of net.now.world) ttl questions.now answers.items) }
 {
     let domain = filtered(&mut table, questions)?;
@@ -50,78 +46,63 @@ pub(crate) fn answers_by<G: Gate + Sync, R: Threads + Wait + Sync>(
         questions,
         slots: &slots,
     };
-    let answers = answers_by_slots(rt, alloc, table, &asked, workers, gate)?;
+    let answers = answers_by_slots(by, alloc, table, &asked)?;
     Ok(answers)
 }
 
 // What workers share is named for it by a type.
 fn answers_by_slots<G: Gate + Sync, R: Threads + Wait + Sync>(
-    rt: &R,
+    by: &Workers<R, G>,
     alloc: Global,
     table: Diagrams,
     asked: &Asked,
-    workers: u32,
-    gate: &G,
 ) -> Result<Vec<Answer>, NoMemory>
-    requires asked { IsAsked table asked.now }
-    requires few { length asked.now.slots.now < 2 ^ 32 }
-    requires each { HaveSlots (length asked.now.questions.now) asked.now.slots.now }
-    requires workers { (1 ≤ workers) × (workers ≤ 64) }
+    requires { IsAsked table asked.now }
     ensures { IfOk result (λ answers. AreAnswers (world_of asked.now.net.now.world) asked.now.ttl asked.now.questions.now answers.items) }
 {
-    answers_in_twins::<Brand, G, R>(rt, alloc, table, asked, workers, gate)
+    answers_in_twins::<Brand, G, R>(by, alloc, table, asked)
 }
 
 // Several workers walk in copies of the table. One walks in the table itself, and so it does where there is one slot.
 fn answers_in_twins<K: Asking + Base + Send + Sync, G: Gate + Sync, R: Threads + Wait + Sync>(
-    rt: &R,
+    by: &Workers<R, G>,
     alloc: Global,
     table: Diagrams,
     asked: &Asked,
-    workers: u32,
-    gate: &G,
 ) -> Result<Vec<Answer>, NoMemory>
     requires asked { IsAsked table asked.now }
-    requires few { length asked.now.slots.now < 2 ^ 32 }
-    requires each { HaveSlots (length asked.now.questions.now) asked.now.slots.now }
-    requires workers { (1 ≤ workers) × (workers ≤ 64) }
     requires base { K.base ≡ table }
     requires named { IsNamed K.world K.ttl K.questions K.slots asked.now }
     ensures { IfOk result (λ answers. AreAnswers (world_of asked.now.net.now.world) asked.now.ttl asked.now.questions.now answers.items) }
 {
-    if workers == 1 || asked.slots.len() < 2 {
+    if by.count == 1 || asked.slots.len() < 2 {
         let twins: Twins<K> = Twins::of(alloc, table)?;
-        return answers_shared(rt, alloc, None, &twins, asked, 1, gate);
+        return answers_shared(&by.one(), alloc, None, &twins, asked);
     }
     let twins: Twins<K> = Twins::new(alloc);
-    answers_shared(rt, alloc, Some(&table), &twins, asked, workers, gate)
+    answers_shared(by, alloc, Some(&table), &twins, asked)
 }
 
 // By workers who walk in these twins of the base.
 fn answers_shared<K: Asking + Base + Send + Sync, G: Gate + Sync, R: Threads + Wait + Sync>(
-    rt: &R,
+    by: &Workers<R, G>,
     alloc: Global,
     base: Option<&Diagrams>,
     twins: &Twins<K>,
     asked: &Asked,
-    workers: u32,
-    gate: &G,
 ) -> Result<Vec<Answer>, NoMemory>
     requires asked { IsAsked K.base asked.now }
-    requires few { length asked.now.slots.now < 2 ^ 32 }
-    requires each { HaveSlots (length asked.now.questions.now) asked.now.slots.now }
-    requires workers { (1 ≤ workers) × (workers ≤ 64) }
     requires base { IfSome base (λ b. K.base ≡ b.now) }
     requires named { IsNamed K.world K.ttl K.questions K.slots asked.now }
     ensures { IfOk result (λ answers. AreAnswers (world_of asked.now.net.now.world) asked.now.ttl asked.now.questions.now answers.items) }
 {
-    let source: Answering<R, K> = Answering::of(rt, base, twins, asked);
+    let source: Answering<R, K> = Answering::of(by.rt, base, twins, asked);
     let roots = whole_slots(alloc, asked.slots.len())?;
     let splitter = BySlots {
         source: &source,
         asking: PhantomData,
     };
-    let leaves = run(rt, alloc, roots.as_slice(), splitter, workers, gate)?;
+    let leaves = run(by, alloc, roots.as_slice(), splitter)?;
     let answers = answers_of_leaves(alloc, asked, &leaves)?;
     Ok(answers)
 }

@@ -4,18 +4,15 @@ use Rattle.std.proofs.lemmas.Option.{get_or_from_slice_get}
 use Rattle.net_types.specs.declared.question.Question.{Question}
 use Rattle.net_types.specs.Questions.{IsAnswer}
 use Rattle.net_view.specs.Borrowed.{world_of}
-use Rattle.set_walk.proofs.SetLemmas.{keeps_then, kept_below}
+use Rattle.set_walk.proofs.SetLemmas.{keeps_then}
 use Rattle.ask_query.specs.Slots.{AnswersNumber}
-use Rattle.ask_query.proofs.WholeLemmas.{whole_kept}
+use Rattle.ask_query.proofs.SharedLemmas.{asked_kept}
 use Rattle.ask_query.proofs.AnswerLemmas.{filter_kept}
 use Rattle.ask_query.proofs.SlotLemmas.{zip_next}
 use Rattle.ask_query.proofs.answers.answers_within.Goals as goal
 
-pub breaking-requires-clause-net : goal.breaking-requires-clause-net
-breaking-requires-clause-net c = whole_kept c.args.table.now c.loop-number.table c.args.asked.now.net.now c.loop-number.invariant.kept c.requires.asked.net
-
-pub breaking-requires-clause-domain : goal.breaking-requires-clause-domain
-breaking-requires-clause-domain c = kept_below c.args.table.now c.loop-number.table c.args.asked.now.domain c.loop-number.invariant.kept c.requires.asked.domain
+pub breaking-requires-clause-asked : goal.breaking-requires-clause-asked
+breaking-requires-clause-asked c = asked_kept c.args.table.now c.loop-number.table c.args.asked.now c.loop-number.invariant.kept c.requires.asked
 
 pub breaking-requires-clause-filter : goal.breaking-requires-clause-filter
 breaking-requires-clause-filter c =

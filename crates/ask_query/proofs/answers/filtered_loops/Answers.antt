@@ -7,9 +7,9 @@ use Rattle.ask_query.proofs.LoopLemmas.{of_filter}
 use Rattle.ask_query.proofs.answers.filtered_loops.Goals as goal
 
 pub looping-requires-clause-net : goal.looping-requires-clause-net
-looping-requires-clause-net c = whole_kept c.args.table.now c.filter_set.new.table c.args.net.now c.in_ok-filter.ensures.kept c.requires.net
+looping-requires-clause-net c = whole_kept c.args.table.now c.filter_set.new.table c.args.asked.now.net.now c.in_ok-filter.ensures.kept c.requires.net
 
 pub returns-clause-exact : goal.returns-clause-exact
 returns-clause-exact c =
     let q = c.args.question.now in
-    of_filter c.filter_set.new.table c.looping.new.table c.in_ok-filter.filter c.in_ok-set.set (λ h. IsIn q.filter (number h)) (Loops (world_of c.args.net.now.world) c.args.ttl q.from) c.in_ok-filter.ensures.exact c.in_ok-set.ensures.exact
+    of_filter c.filter_set.new.table c.looping.new.table c.in_ok-filter.filter c.in_ok-set.set (λ h. IsIn q.filter (number h)) (Loops (world_of c.args.asked.now.net.now.world) c.args.asked.now.ttl q.from) c.in_ok-filter.ensures.exact c.in_ok-set.ensures.exact

@@ -11,11 +11,11 @@ use Rattle.ask_query.proofs.answers.not_reaching.Goals as goal
 pub returns-clause-exact : goal.returns-clause-exact
 returns-clause-exact c =
     let q = c.args.question.now in
-    let w = world_of c.args.net.now.world in
-    without_those c.reaching.new.table c.filter_set.new.table c.without.new.table c.in_ok-those.those c.in_ok-filter.filter c.in_ok-set.set (ReachesNamed w c.args.ttl q.from q.to) (λ h. IsIn q.filter (number h)) c.in_ok-filter.ensures.kept c.in_ok-those.ensures.below c.in_ok-those.ensures.exact c.in_ok-filter.ensures.exact c.in_ok-set.ensures.exact
+    let w = world_of c.args.asked.now.net.now.world in
+    without_those c.reaching.new.table c.filter_set.new.table c.without.new.table c.in_ok-those.those c.in_ok-filter.filter c.in_ok-set.set (ReachesNamed w c.args.asked.now.ttl q.from q.to) (λ h. IsIn q.filter (number h)) c.in_ok-filter.ensures.kept c.in_ok-those.ensures.below c.in_ok-those.ensures.exact c.in_ok-filter.ensures.exact c.in_ok-set.ensures.exact
 
 pub returns-clause-walks : goal.returns-clause-walks
 returns-clause-walks c =
-    let w = world_of c.args.net.now.world in
+    let w = world_of c.args.asked.now.net.now.world in
     let k = keeps_then c.reaching.new.table c.filter_set.new.table c.without.new.table c.in_ok-filter.ensures.kept c.in_ok-set.ensures.kept in
-    walks_kept w c.args.ttl c.reaching.new.table c.without.new.table c.args.domain (get same_place c.reaching.new.walks) k (kept_below c.args.table.now c.reaching.new.table c.args.domain c.in_ok-those.ensures.kept c.requires.domain) c.in_ok-those.ensures.walks
+    walks_kept w c.args.asked.now.ttl c.reaching.new.table c.without.new.table c.args.asked.now.domain (get same_place c.reaching.new.walks) k (kept_below c.args.table.now c.reaching.new.table c.args.asked.now.domain c.in_ok-those.ensures.kept c.requires.asked.domain) c.in_ok-those.ensures.walks

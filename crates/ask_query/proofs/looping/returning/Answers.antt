@@ -1,8 +1,7 @@
-use Rattle.std.proofs.Common.{◌≡◌, ◌⊎◌, ◌≤◌, ◌<◌, ◌+◌, ◌∙◌, List, subst, sym, arith}
+use Rattle.std.proofs.Common.{◌≡◌, ◌⊎◌, ◌<◌, ◌+◌, ◌∙◌, List, subst, sym, arith}
 use Rattle.net_types.specs.Walks.{state_at}
 use Rattle.set_walk.specs.declared.step.Way.{Way}
 use Rattle.set_walk.specs.Sets.{InSet, IsSetOf}
-use Rattle.set_walk.specs.Circles.{AllSame}
 use Rattle.set_walk.proofs.CircleLemmas.{is_later, later_level, later_moves, levels_same}
 use Rattle.set_walk.proofs.WalkLemmas.{level_kept}
 use Rattle.ask_query.specs.Looping.{ByWay, Returns, unchanged_at}

@@ -10,3 +10,6 @@ run-requires-clause-apart g c κs within = subst (AllPairs LieApart) (sym c.as_s
 pub answers_of_leaves-requires-clause-leaves : goal.answers_of_leaves-requires-clause-leaves
 answers_of_leaves-requires-clause-leaves g c k l =
     leaf_of c.as_slice.result.now c.in_ok-leaves.leaves.items c.in_ok-leaves.ensures k (subst (λ (rs : List Region). Any (Holds k 0) rs) (sym c.as_slice.ensures.value) (c.in_ok-roots.ensures.whole k 0 l))
+
+pub answers_of_leaves-requires-clause-each : goal.answers_of_leaves-requires-clause-each
+answers_of_leaves-requires-clause-each g c = c.requires.asked.each
