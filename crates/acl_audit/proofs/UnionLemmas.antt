@@ -1,5 +1,5 @@
 -- Blocks of entries, and the sets of what they decide.
-use Rattle.std.proofs.Common.{ℕ, zero, suc, ◌≡◌, ◌<◌, ◌≤◌, ◌+◌, ◌*◌, ◌/◌, ◌-◌, ◌^◌, inl, inr, Bool, true, false, cond, ◌||◌, ◌&&◌, List, [], ◌∷◌, ◌++◌, length, get_or, slice_get, Some, None, refl, ap, sym, ◌∙◌, subst, arith, Vec, Global}
+use Rattle.std.proofs.Common.{ℕ, zero, suc, ◌≡◌, ◌<◌, ◌≤◌, ◌+◌, ◌*◌, ◌/◌, ◌-◌, ◌^◌, inl, inr, Bool, true, false, cond, ◌||◌, ◌&&◌, List, [], ◌∷◌, ◌++◌, drop, length, get_or, slice_get, Some, None, refl, ap, sym, ◌∙◌, subst, arith, Vec, Global}
 use Rattle.std.proofs.lemmas.Bool.{cases_lt}
 use Rattle.std.proofs.lemmas.Option.{slice_get_read}
 use Rattle.std.proofs.lemmas.List.{get_or_append_left, get_or_push, get_or_past, length-append}
@@ -9,9 +9,10 @@ use Rattle.cube_diagram.specs.Functions.{Functions, Keeps, GivesNothing, count_o
 use Rattle.cube_diagram.specs.Combined.{if_both}
 use Rattle.net_types.specs.declared.config.Entry.{Entry}
 use Rattle.net_types.specs.AccessLists.{matches, entries_verdict}
+use Rattle.acl_audit.specs.declared.audited.Audited.{Audited}
 use Rattle.acl_audit.specs.declared.finding.Taken.{Taken}
 use Rattle.acl_audit.specs.Findings.{AreTaken, Takes, is_by}
-use Rattle.acl_audit.specs.Sets.{IsSet, AreLevel, AreUnions, blocks_of, decided_in, is_of, start_of}
+use Rattle.acl_audit.specs.Sets.{IsAudited, IsSet, AreLevel, AreUnions, blocks_of, decided_in, is_of, passes_to, start_of}
 use Rattle.acl_audit.proofs.SetLemmas.{kept_set, same_set, within_set, keeps_then}
 use Rattle.acl_audit.proofs.FindingLemmas.{gathers_next, is_taken, takes_some}
 
@@ -41,6 +42,15 @@ level_kept f g es level sets k s block l = kept_set f g (decided_in es level blo
 pub unions_kept : (f g : Functions) (es : List Entry) (levels : List (List ℕ)) → Keeps f g → AreUnions f es levels → AreUnions g es levels
 unions_kept f g es levels k u =
     record { long = u.long; sets = λ level. level_kept f g es level (get_or levels level []) k (u.sets level) }
+
+pub audited_kept : (f g : Functions) (a : Audited) → Keeps f g → IsAudited f a → IsAudited g a
+audited_kept f g a k i =
+    let es = a.entries.now in
+    record {
+      tails = record { few = i.tails.few; each = λ n l. kept_set f g (passes_to false (drop (length es - n) es)) (get_or a.tails.now n 0) k (i.tails.each n l) };
+      all = i.all;
+      unions = unions_kept f g es a.unions.now k i.unions;
+    }
 
 -- ---- levels one above the other
 pub record HasLevels (start now : Functions) (es : List Entry) (levels : List (List ℕ)) (top : List ℕ) : Type 0 where

@@ -5,6 +5,7 @@ use Rattle.hdr_bits.specs.HeaderBits.{header_of}
 use Rattle.cube_diagram.specs.Functions.{Functions, count_of, value_at}
 use Rattle.net_types.specs.declared.config.Entry.{Entry}
 use Rattle.net_types.specs.AccessLists.{matches, entries_verdict}
+use Rattle.acl_audit.specs.declared.audited.Audited.{Audited}
 use Rattle.acl_audit.specs.Findings.{is_by}
 
 -- 1 where the test holds, else nothing
@@ -72,3 +73,9 @@ blocks_of (suc level) n = blocks_of level n / 2
 pub record AreUnions (fs : Functions) (es : List Entry) (levels : List (List ℕ)) : Type 0 where
   pub long : (level : ℕ) → length (get_or levels level []) ≡ blocks_of level (length es)
   pub sets : (level : ℕ) → AreLevel fs es level (get_or levels level [])
+
+-- these are the sets of the list's entries
+pub record IsAudited (fs : Functions) (a : Audited) : Type 0 where
+  pub tails : AreTails fs a.entries.now a.tails.now
+  pub all : length a.tails.now ≡ length a.entries.now + 1
+  pub unions : AreUnions fs a.entries.now a.unions.now

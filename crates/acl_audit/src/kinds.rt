@@ -8,8 +8,9 @@ ghost use Rattle.std.specs.List.{remove};
 ghost use Rattle.net_types.specs.declared.config.Entry.{Entry};
 ghost use Rattle.cube_diagram.specs.Functions.{Keeps, count_of};
 ghost use Rattle.acl_audit.specs.Findings.{IsKind, IsDead};
-ghost use Rattle.acl_audit.specs.Sets.{IsSet, AreTails, any_matches, decided_in, passes_to};
+ghost use Rattle.acl_audit.specs.Sets.{IsAudited, IsSet, AreTails, any_matches, decided_in, passes_to};
 
+use crate::audited::Audited;
 use crate::finding::FindingKind;
 use cube_diagram::Diagrams;
 use net_types::Entry;
@@ -19,24 +20,22 @@ use no_memory::NoMemory;
 /// number, `head` that of those that an entry before it matches.
 pub(crate) fn kind_of(
     diagrams: &mut Diagrams,
-    entries: &[Entry],
+    audited: Audited,
     position: usize,
     own: u32,
     head: u32,
-    tails: &[u32],
 ) -> Result<Option<FindingKind>, NoMemory>
-    requires position { position < length entries.now }
-    requires head { IsSet diagrams.old (any_matches (take position entries.now)) head }
-    requires own { IsSet diagrams.old (decided_in entries.now 0 position) own }
-    requires tails { AreTails diagrams.old entries.now tails.now }
-    requires all { length tails.now ≡ length entries.now + 1 }
-    ensures kind { IfOk result (λ kind. (e : Entry) → slice_get entries.now position ≡ Some e → IsKind entries.now position e kind) }
+    requires audited { IsAudited diagrams.old audited }
+    requires position { position < length audited.entries.now }
+    requires head { IsSet diagrams.old (any_matches (take position audited.entries.now)) head }
+    requires own { IsSet diagrams.old (decided_in audited.entries.now 0 position) own }
+    ensures kind { IfOk result (λ kind. (e : Entry) → slice_get audited.entry.entries.now position ≡ Some e → IsKind audited.entry.entries.now position e kind) }
     ensures kept { Keeps diagrams.old diagrams.new }
 {
     if is_dead(diagrams, own) {
         return Ok(Some(FindingKind::Dead));
     }
-    let same = passes_same(diagrams, entries, position, head, tails)?;
+    let same = passes_same(diagrams, audited, position, head)?;
     if same {
         return Ok(Some(FindingKind::Redundant));
     }
@@ -56,21 +55,19 @@ fn is_dead(diagrams: &Diagrams, own: u32) -> bool
 // is whether the tails with it and without it differ elsewhere.
 fn passes_same(
     diagrams: &mut Diagrams,
-    entries: &[Entry],
+    audited: Audited,
     position: usize,
     head: u32,
-    tails: &[u32],
 ) -> Result<bool, NoMemory>
-    requires position { position < length entries.now }
-    requires head { IsSet diagrams.old (any_matches (take position entries.now)) head }
-    requires tails { AreTails diagrams.old entries.now tails.now }
-    requires all { length tails.now ≡ length entries.now + 1 }
+    requires audited { IsAudited diagrams.old audited }
+    requires position { position < length audited.entries.now }
+    requires head { IsSet diagrams.old (any_matches (take position audited.entries.now)) head }
     ensures same { IfOk result (λ same. IsTrue same ↔ ((h : Header) → IsHeader h
-        → passes (entries_verdict (remove entries.now position) h) ≡ passes (entries_verdict entries.now h))) }
+        → passes (entries_verdict (remove audited.entry.entries.now position) h) ≡ passes (entries_verdict audited.entry.entries.now h))) }
     ensures kept { Keeps diagrams.old diagrams.new }
 {
-    let whole = tails[entries.len() - position];
-    let rest = rest_set(diagrams, entries, position, tails);
+    let whole = audited.tails[audited.entries.len() - position];
+    let rest = rest_set(diagrams, audited.entries, audited.tails, position);
     let difference = diagrams.difference(whole, rest)?;
     let open = diagrams.without(difference, head)?;
     Ok(diagrams.is_nothing(open))
@@ -78,7 +75,7 @@ fn passes_same(
 
 // What the list without the entry passes of the headers that no entry before it matches. Without its only entry a list
 // passes everything.
-fn rest_set(diagrams: &Diagrams, entries: &[Entry], position: usize, tails: &[u32]) -> u32
+fn rest_set(diagrams: &Diagrams, entries: &[Entry], tails: &[u32], position: usize) -> u32
     requires position { position < length entries.now }
     requires tails { AreTails diagrams.now entries.now tails.now }
     requires all { length tails.now ≡ length entries.now + 1 }

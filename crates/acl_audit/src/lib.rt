@@ -3,6 +3,7 @@
 //! matches decides, and the end of a list denies. The definitions are in `specs/Findings.antt`.
 #![tactic(auto)]
 
+mod audited;
 mod decided;
 mod finding;
 mod gather;

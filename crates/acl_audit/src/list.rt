@@ -1,13 +1,14 @@
 //! A whole list.
 
-ghost use Rattle.std.specs.Prelude.{◌≡◌, ◌<◌, ◌+◌, Some, IfOk, length, slice_get, take};
+ghost use Rattle.std.specs.Prelude.{◌≡◌, ◌<◌, Some, IfOk, length, slice_get, take};
 ghost use Rattle.hdr_bits.specs.HeaderBits.{header_of};
 ghost use Rattle.net_types.specs.declared.config.Entry.{Entry};
 ghost use Rattle.net_types.specs.AccessLists.{matches};
 ghost use Rattle.cube_diagram.specs.Functions.{Keeps};
 ghost use Rattle.acl_audit.specs.Findings.{AreFindings, Finds};
-ghost use Rattle.acl_audit.specs.Sets.{IsSet, AreMatched, AreTails, AreUnions, any_matches};
+ghost use Rattle.acl_audit.specs.Sets.{IsAudited, IsSet, AreMatched, any_matches};
 
+use crate::audited::Audited;
 use crate::finding::Finding;
 use crate::gather::push_if;
 use crate::kinds::kind_of;
@@ -44,29 +45,30 @@ fn findings_of(
     let matched = match_sets(alloc, diagrams, entries)?;
     let tails = tail_sets(alloc, diagrams, entries, &matched)?;
     let unions = Unions::over(alloc, diagrams, entries, &matched)?;
-    judge_all(alloc, diagrams, entries, &matched, &tails, &unions)
+    let audited = Audited {
+        entries,
+        tails: &tails,
+        unions: &unions,
+    };
+    judge_all(alloc, diagrams, audited, &matched)
 }
 
 // Judges one entry after the other. `matched` has the sets of the headers that they match.
 fn judge_all(
     alloc: Global,
     diagrams: &mut Diagrams,
-    entries: &[Entry],
+    audited: Audited,
     matched: &[u32],
-    tails: &[u32],
-    unions: &Unions,
 ) -> Result<Vec<Finding>, NoMemory>
-    requires matched { AreMatched diagrams.old entries.now matched.now }
-    requires tails { AreTails diagrams.old entries.now tails.now }
-    requires all { length tails.now ≡ length entries.now + 1 }
-    requires unions { AreUnions diagrams.old entries.now unions.now }
-    ensures { IfOk result (λ findings. AreFindings entries.now (length entries.now) findings.items) }
+    requires audited { IsAudited diagrams.old audited }
+    requires matched { AreMatched diagrams.old audited.entries.now matched.now }
+    ensures { IfOk result (λ findings. AreFindings audited.entry.entries.now (length audited.entry.entries.now) findings.items) }
 {
     let mut findings = Vec::new(alloc);
     let mut head = diagrams.nothing();
-    for i in 0..entries.len() {
+    for i in 0..audited.entries.len() {
         let set = matched[i];
-        let finding = judge(alloc, diagrams, entries, i, set, head, tails, unions)?;
+        let finding = judge(alloc, diagrams, audited, i, set, head)?;
         push_if(&mut findings, finding)?;
         head = add_set(diagrams, head, set)?;
     }
@@ -77,29 +79,25 @@ fn judge_all(
 fn judge(
     alloc: Global,
     diagrams: &mut Diagrams,
-    entries: &[Entry],
+    audited: Audited,
     position: usize,
     matched: u32,
     head: u32,
-    tails: &[u32],
-    unions: &Unions,
 ) -> Result<Option<Finding>, NoMemory>
-    requires position { position < length entries.now }
-    requires matched { (e : Entry) → slice_get entries.now position ≡ Some e → IsSet diagrams.old (λ h. matches e (header_of h)) matched }
-    requires head { IsSet diagrams.old (any_matches (take position entries.now)) head }
-    requires tails { AreTails diagrams.old entries.now tails.now }
-    requires all { length tails.now ≡ length entries.now + 1 }
-    requires unions { AreUnions diagrams.old entries.now unions.now }
-    ensures finding { IfOk result (λ finding. (e : Entry) → slice_get entries.now position ≡ Some e → Finds entries.now position e finding) }
+    requires audited { IsAudited diagrams.old audited }
+    requires position { position < length audited.entries.now }
+    requires matched { (e : Entry) → slice_get audited.entries.now position ≡ Some e → IsSet diagrams.old (λ h. matches e (header_of h)) matched }
+    requires head { IsSet diagrams.old (any_matches (take position audited.entries.now)) head }
+    ensures finding { IfOk result (λ finding. (e : Entry) → slice_get audited.entry.entries.now position ≡ Some e → Finds audited.entry.entries.now position e finding) }
     ensures kept { Keeps diagrams.old diagrams.new }
 {
-    let own = unions.set(0, position);
-    let Some(kind) = kind_of(diagrams, entries, position, own, head, tails)? else {
+    let own = audited.unions.set(0, position);
+    let Some(kind) = kind_of(diagrams, audited, position, own, head)? else {
         return Ok(None);
     };
-    let taken = taken_by_earlier(alloc, diagrams, entries, unions, position, matched)?;
+    let taken = taken_by_earlier(alloc, diagrams, audited, position, matched)?;
     Ok(Some(Finding {
-        sequence: entries[position].sequence,
+        sequence: audited.entries[position].sequence,
         kind,
         taken: List::new(taken),
     }))

@@ -8,13 +8,14 @@ ghost use Rattle.net_types.specs.declared.config.Entry.{Entry};
 ghost use Rattle.cube_diagram.specs.Functions.{Keeps, count_of, value_at};
 ghost use Rattle.cube_diagram.specs.Paths.{cubes_of};
 ghost use Rattle.acl_audit.specs.Findings.{AreTaken};
-ghost use Rattle.acl_audit.specs.Sets.{IsSet, AreUnions, start_of};
+ghost use Rattle.acl_audit.specs.Sets.{IsAudited, IsSet, start_of};
 
+use crate::audited::Audited;
 use crate::finding::Taken;
-use crate::unions::Unions;
+use crate::unions::Block;
 use cube_diagram::Diagrams;
 use hdr_bits::Cube;
-use net_types::{Entry, List};
+use net_types::List;
 use no_memory::NoMemory;
 use std::alloc::Global;
 
@@ -24,35 +25,33 @@ use std::alloc::Global;
 pub(crate) fn taken_by_earlier(
     alloc: Global,
     diagrams: &mut Diagrams,
-    entries: &[Entry],
-    unions: &Unions,
+    audited: Audited,
     position: usize,
     matched: u32,
 ) -> Result<Vec<Taken>, NoMemory>
-    requires position { position < length entries.now }
-    requires unions { AreUnions diagrams.old entries.now unions.now }
+    requires audited { IsAudited diagrams.old audited }
+    requires position { position < length audited.entries.now }
     requires matched { matched < count_of diagrams.old }
-    ensures taken { IfOk result (λ taken. (e : Entry) → IsSet diagrams.old (λ h. matches e (header_of h)) matched → AreTaken entries.now position e taken.items) }
+    ensures taken { IfOk result (λ taken. (e : Entry) → IsSet diagrams.old (λ h. matches e (header_of h)) matched → AreTaken audited.entry.entries.now position e taken.items) }
     ensures kept { Keeps diagrams.old diagrams.new }
 {
-    taken_by_blocks(alloc, diagrams, entries, unions, 0, position, matched)
+    taken_by_blocks(alloc, diagrams, audited, 0, position, matched)
 }
 
 // What the first blocks of a level take of the headers of a set: two of them are one of the next level.
 fn taken_by_blocks(
     alloc: Global,
     diagrams: &mut Diagrams,
-    entries: &[Entry],
-    unions: &Unions,
+    audited: Audited,
     level: usize,
     count: usize,
     matched: u32,
 ) -> Result<Vec<Taken>, NoMemory>
-    requires few { level + count ≤ length entries.now }
-    requires there { count ≤ length (get_or unions.now level []) }
-    requires unions { AreUnions diagrams.old entries.now unions.now }
+    requires few { level + count ≤ length audited.entries.now }
+    requires there { count ≤ length (get_or audited.unions.now level []) }
+    requires audited { IsAudited diagrams.old audited }
     requires matched { matched < count_of diagrams.old }
-    ensures taken { IfOk result (λ taken. (e : Entry) → IsSet diagrams.old (λ h. matches e (header_of h)) matched → AreTaken entries.now (start_of level count) e taken.items) }
+    ensures taken { IfOk result (λ taken. (e : Entry) → IsSet diagrams.old (λ h. matches e (header_of h)) matched → AreTaken audited.entry.entries.now (start_of level count) e taken.items) }
     ensures kept { Keeps diagrams.old diagrams.new }
 {
     if count == 0 {
@@ -60,21 +59,16 @@ fn taken_by_blocks(
     }
     let above = level + 1;
     let half = count / 2;
-    let mut taken = taken_by_blocks(alloc, diagrams, entries, unions, above, half, matched)?;
+    let mut taken = taken_by_blocks(alloc, diagrams, audited, above, half, matched)?;
     let rest = count % 2;
     if rest == 0 {
         return Ok(taken);
     }
-    add_taken_by(
-        alloc,
-        diagrams,
-        entries,
-        unions,
+    let last = Block {
         level,
-        count - 1,
-        matched,
-        &mut taken,
-    )?;
+        number: count - 1,
+    };
+    add_taken_by(alloc, diagrams, audited, last, matched, &mut taken)?;
     Ok(taken)
 }
 
@@ -82,39 +76,43 @@ fn taken_by_blocks(
 fn add_taken_by(
     alloc: Global,
     diagrams: &mut Diagrams,
-    entries: &[Entry],
-    unions: &Unions,
-    level: usize,
-    block: usize,
+    audited: Audited,
+    block: Block,
     matched: u32,
     taken: &mut Vec<Taken>,
 ) -> Result<(), NoMemory>
-    requires there { block < length (get_or unions.now level []) }
-    requires unions { AreUnions diagrams.old entries.now unions.now }
+    requires there { block.number < length (get_or audited.unions.now block.level []) }
+    requires audited { IsAudited diagrams.old audited }
     requires matched { matched < count_of diagrams.old }
     ensures taken { OnOk result ((e : Entry) → IsSet diagrams.old (λ h. matches e (header_of h)) matched
-        → AreTaken entries.now (start_of level block) e taken.old.items → AreTaken entries.now (start_of level (block + 1)) e taken.new.items) }
+        → AreTaken audited.entry.entries.now (start_of block.level block.number) e taken.old.items → AreTaken audited.entry.entries.now (start_of block.level (block.number + 1)) e taken.new.items) }
     ensures kept { Keeps diagrams.old diagrams.new }
 {
-    let common = diagrams.within(matched, unions.set(level, block))?;
+    let Block { level, number } = block;
+    let common = diagrams.within(matched, audited.unions.set(level, number))?;
     if diagrams.is_nothing(common) {
         return Ok(());
     }
     if level == 0 {
         let rows = rows_of(alloc, diagrams, common)?;
         taken.push(Taken {
-            sequence: entries[block].sequence,
+            sequence: audited.entries[number].sequence,
             rows: List::new(rows),
         })?;
         return Ok(());
     }
     let below = level - 1;
-    let low = 2 * block;
-    let high = low + 1;
-    add_taken_by(alloc, diagrams, entries, unions, below, low, matched, taken)?;
-    add_taken_by(
-        alloc, diagrams, entries, unions, below, high, matched, taken,
-    )?;
+    let twice = 2 * number;
+    let low = Block {
+        level: below,
+        number: twice,
+    };
+    let high = Block {
+        level: below,
+        number: twice + 1,
+    };
+    add_taken_by(alloc, diagrams, audited, low, matched, taken)?;
+    add_taken_by(alloc, diagrams, audited, high, matched, taken)?;
     Ok(())
 }
 

@@ -22,6 +22,13 @@ pub(crate) struct Unions {
     levels: Vec<Vec<u32>>,
 }
 
+/// A block of a level, the first being number 0.
+#[derive(Clone, Copy)]
+pub(crate) struct Block {
+    pub(crate) level: usize,
+    pub(crate) number: usize,
+}
+
 impl Model for Unions {
     ghost use Rattle.std.specs.Prelude.{ℕ, List, map};
 

@@ -5,7 +5,7 @@ use Rattle.net_types.specs.AccessLists.{matches}
 use Rattle.acl_audit.specs.Sets.{any_matches}
 use Rattle.acl_audit.proofs.SetLemmas.{kept_set, keeps_then}
 use Rattle.acl_audit.proofs.LoopLemmas.{matched_below}
-use Rattle.acl_audit.proofs.UnionLemmas.{unions_kept}
+use Rattle.acl_audit.proofs.UnionLemmas.{audited_kept}
 use Rattle.acl_audit.proofs.FindingLemmas.{findings_next, front_more}
 
 pub judge-requires-clause-matched : goal.judge-requires-clause-matched
@@ -13,19 +13,19 @@ judge-requires-clause-matched c e q =
     let l = c.loop-i in
     kept_set c.args.diagrams.now l.diagrams (λ h. matches e (header_of h)) (get_or c.args.matched.now l.i 0) l.invariant.kept (c.requires.matched.each l.i e q)
 
-pub judge-requires-clause-unions : goal.judge-requires-clause-unions
-judge-requires-clause-unions c =
-    unions_kept c.args.diagrams.now c.loop-i.diagrams c.args.entries.now c.args.unions.now c.loop-i.invariant.kept c.requires.unions
+pub judge-requires-clause-audited : goal.judge-requires-clause-audited
+judge-requires-clause-audited c =
+    audited_kept c.args.diagrams.now c.loop-i.diagrams c.args.audited c.loop-i.invariant.kept c.requires.audited
 
 pub add_set-requires-clause-second : goal.add_set-requires-clause-second
 add_set-requires-clause-second c =
     let l = c.loop-i in
-    matched_below c.args.diagrams.now c.judge.new.diagrams c.args.entries.now c.args.matched.now l.i c.loop-i-test.true (keeps_then c.args.diagrams.now l.diagrams c.judge.new.diagrams l.invariant.kept c.in_ok-finding.ensures.kept) c.requires.matched
+    matched_below c.args.diagrams.now c.judge.new.diagrams c.args.audited.entries.now c.args.matched.now l.i c.loop-i-test.true (keeps_then c.args.diagrams.now l.diagrams c.judge.new.diagrams l.invariant.kept c.in_ok-finding.ensures.kept) c.requires.matched
 
 pub loop-i-preserved : goal.loop-i-preserved
 loop-i-preserved c =
     let l = c.loop-i in
-    let es = c.args.entries.now in
+    let es = c.args.audited.entries.now in
     let d1 = l.diagrams in
     let d2 = c.judge.new.diagrams in
     let d3 = c.add_set.new.diagrams in
