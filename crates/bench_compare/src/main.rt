@@ -16,6 +16,7 @@ mod reading;
 mod stages;
 
 use net_compare::compare;
+use net_forms::Networks;
 use net_io::RealFiles;
 use net_load::Numbered;
 use net_types::{Loaded, NoMemory, Section};
@@ -26,7 +27,7 @@ use std::sync::Wait;
 use std::thread::Threads;
 use std::time::Instant;
 use std::{env, io};
-use steal_pool::OpenGate;
+use steal_pool::{OpenGate, Workers};
 use topo_links::LinkTable;
 
 // The words of the command line, without the program's name.
@@ -156,18 +157,20 @@ fn out_of_memory(_: NoMemory) -> io::Error {
 
 // Goes through the stages and prints what there is.
 fn measure_networks(rt: &HostRuntime, numbered: &Numbered) -> io::Result<Stages> {
-    let old = WorldRef {
-        network: &numbered.old,
-        links: &numbered.links,
-    };
-    let new = WorldRef {
-        network: &numbered.new,
-        links: &numbered.links,
+    let networks = Networks {
+        old: WorldRef {
+            network: &numbered.old,
+            links: &numbered.links,
+        },
+        new: WorldRef {
+            network: &numbered.new,
+            links: &numbered.links,
+        },
     };
     let start = Instant::now(rt)?;
     let clock = Clock { rt, start: &start };
     let ingress = numbered.links.ingress.as_slice();
-    let stages = measure(clock, old, new, ingress).map_err(out_of_memory)?;
+    let stages = measure(clock, networks, ingress).map_err(out_of_memory)?;
     print_stages(rt, &stages)?;
     Ok(stages)
 }
@@ -196,17 +199,12 @@ fn measure_rows<R: Threads + Wait + Sync>(
     let start = Instant::now(rt)?;
     let old = &numbered.old;
     let new = &numbered.new;
-    let workers = workers.clamp(1, 64);
-    let compared = compare(
-        threads,
-        rt.alloc(),
-        old,
-        new,
-        &numbered.links,
-        TTL,
-        workers,
-        &OpenGate,
-    );
+    let by = Workers {
+        rt: threads,
+        gate: &OpenGate,
+        count: workers.clamp(1, 64),
+    };
+    let compared = compare(&by, rt.alloc(), old, new, &numbered.links, TTL);
     let sections = compared.map_err(out_of_memory)?;
     print_rows(rt, &start, &sections)
 }

@@ -14,9 +14,8 @@ ghost use Rattle.set_walk.specs.Sets.{IsWithin};
 use cube_diagram::Diagrams;
 use difference_reach::Reach;
 use net_compare::{ScopedWays, scoped_ways};
-use net_forms::{Prepared, PreparedParts, Tables};
+use net_forms::{BothForms, Networks, Prepared, PreparedParts, Tables};
 use net_types::{NoMemory, Place};
-use net_view::WorldRef;
 use place_ways::BothWays;
 use set_walk::{Net, label_numbers};
 use std::time::Instant;
@@ -88,11 +87,10 @@ pub(crate) struct Walked {
 /// Goes through the stages of the comparison of two networks, but for the rows.
 pub(crate) fn measure(
     clock: Clock,
-    old: WorldRef,
-    new: WorldRef,
+    networks: Networks,
     ingress: &[Place],
 ) -> Result<Stages, NoMemory> {
-    let prepared = Prepared::of(clock.rt.alloc(), old, new)?;
+    let prepared = Prepared::of(clock.rt.alloc(), networks)?;
     measure_parts(clock, prepared.into_parts(), ingress)
 }
 
@@ -111,16 +109,18 @@ fn measure_parts(clock: Clock, parts: PreparedParts, ingress: &[Place]) -> Resul
     } = tables;
     let compiled = clock.stage(&diagrams);
     let alloc = clock.rt.alloc();
-    let scoped = scoped_ways(alloc, &fates, &old, &new, &like, &mut diagrams)?;
-    let stages = measure_ways(
-        clock,
-        compiled,
-        &mut diagrams,
-        old.world,
-        new.world,
-        &scoped,
-        ingress,
-    )?;
+    let forms = BothForms {
+        fates: &fates,
+        old: &old,
+        new: &new,
+        like: &like,
+    };
+    let scoped = scoped_ways(alloc, forms, &mut diagrams)?;
+    let networks = Networks {
+        old: old.world,
+        new: new.world,
+    };
+    let stages = measure_ways(clock, compiled, &mut diagrams, networks, &scoped, ingress)?;
     Ok(stages)
 }
 
@@ -128,23 +128,22 @@ fn measure_ways(
     clock: Clock,
     compiled: Stage,
     table: &mut Diagrams,
-    before: WorldRef,
-    after: WorldRef,
+    networks: Networks,
     scoped: &ScopedWays,
     ingress: &[Place],
 ) -> Result<Stages, NoMemory>
-    requires old { ArePlaceWays (world_of before) table.old scoped.now.scope scoped.now.ways.lists.items (get same_place scoped.now.ways.old) }
-    requires new { ArePlaceWays (world_of after) table.old scoped.now.scope scoped.now.ways.lists.items (get same_place scoped.now.ways.new) }
+    requires old { ArePlaceWays (world_of networks.old) table.old scoped.now.scope scoped.now.ways.lists.items (get same_place scoped.now.ways.old) }
+    requires new { ArePlaceWays (world_of networks.new) table.old scoped.now.scope scoped.now.ways.lists.items (get same_place scoped.now.ways.new) }
 {
     let ways = &scoped.ways;
     let old = Net {
-        world: before,
+        world: networks.old,
         places: &ways.old,
         lists: &ways.lists,
         scope: scoped.scope,
     };
     let new = Net {
-        world: after,
+        world: networks.new,
         places: &ways.new,
         lists: &ways.lists,
         scope: scoped.scope,

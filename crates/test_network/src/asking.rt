@@ -12,7 +12,7 @@ use crate::networks::INGRESS;
 use crate::opinion::{Counted, Opinion};
 use cube_diagram::Diagrams;
 use difference_reach::Reach;
-use net_forms::{PreparedParts, Tables};
+use net_forms::{BothForms, Networks, PreparedParts, Tables};
 use net_types::{NoMemory, Place};
 use net_view::WorldRef;
 use place_ways::{BothWays, ways_of_both};
@@ -49,7 +49,7 @@ fn ask(
     old: WorldRef,
     new: WorldRef,
 ) -> Result<Counted, NoMemory> {
-    let prepared = Prepared::of(alloc, old, new)?;
+    let prepared = Prepared::of(alloc, Networks { old, new })?;
     let opinion = Opinion {
         alloc,
         prepared: &prepared,
@@ -60,7 +60,11 @@ fn ask(
 }
 
 fn ask_compiled(question: Question, opinion: Opinion) -> Result<Counted, NoMemory> {
-    let compiled = Prepared::of(opinion.alloc, opinion.walked, opinion.other)?;
+    let networks = Networks {
+        old: opinion.walked,
+        new: opinion.other,
+    };
+    let compiled = Prepared::of(opinion.alloc, networks)?;
     ask_parts(question, opinion, compiled.into_parts())
 }
 
@@ -83,24 +87,18 @@ fn ask_parts(
     } = tables;
     // All headers are asked, so they are the scope.
     let scope = diagrams.everything();
-    let ways = ways_of_both(
-        opinion.alloc,
-        &fates,
-        &old,
-        &new,
-        &like,
-        scope,
-        &mut diagrams,
-    )?;
-    let counted = ask_ways(
-        question,
-        opinion,
-        &mut diagrams,
-        old.world,
-        new.world,
-        scope,
-        &ways,
-    )?;
+    let forms = BothForms {
+        fates: &fates,
+        old: &old,
+        new: &new,
+        like: &like,
+    };
+    let ways = ways_of_both(opinion.alloc, forms, scope, &mut diagrams)?;
+    let networks = Networks {
+        old: old.world,
+        new: new.world,
+    };
+    let counted = ask_ways(question, opinion, &mut diagrams, networks, scope, &ways)?;
     Ok(counted)
 }
 
@@ -108,22 +106,21 @@ fn ask_ways(
     question: Question,
     opinion: Opinion,
     table: &mut Diagrams,
-    before: WorldRef,
-    after: WorldRef,
+    networks: Networks,
     scope: u32,
     ways: &BothWays,
 ) -> Result<Counted, NoMemory>
-    requires old { ArePlaceWays (world_of before) table.old scope ways.now.lists.items (get same_place ways.now.old) }
-    requires new { ArePlaceWays (world_of after) table.old scope ways.now.lists.items (get same_place ways.now.new) }
+    requires old { ArePlaceWays (world_of networks.old) table.old scope ways.now.lists.items (get same_place ways.now.old) }
+    requires new { ArePlaceWays (world_of networks.new) table.old scope ways.now.lists.items (get same_place ways.now.new) }
 {
     let old = Net {
-        world: before,
+        world: networks.old,
         places: &ways.old,
         lists: &ways.lists,
         scope,
     };
     let new = Net {
-        world: after,
+        world: networks.new,
         places: &ways.new,
         lists: &ways.lists,
         scope,

@@ -113,7 +113,11 @@ fn show_world(rt: &HostRuntime, case: &Case, world: WorldRef) -> io::Result<()> 
 // ---- by the graph of this header alone
 
 fn by_graph(alloc: Global, case: &Case, world: WorldRef) -> Option<Answers> {
-    match Prepared::of(alloc, world, world) {
+    let networks = net_forms::Networks {
+        old: world,
+        new: world,
+    };
+    match Prepared::of(alloc, networks) {
         Ok(prepared) => explored(alloc, case, &prepared),
         Err(_) => None,
     }

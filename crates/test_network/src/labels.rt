@@ -216,7 +216,11 @@ fn show_case(rt: &HostRuntime, case: &Case) -> io::Result<()> {
 }
 
 fn show_pair(rt: &HostRuntime, case: &Case, pair: Pair) -> io::Result<()> {
-    match Prepared::of(rt.alloc(), pair.old, pair.new) {
+    let both = net_forms::Networks {
+        old: pair.old,
+        new: pair.new,
+    };
+    match Prepared::of(rt.alloc(), both) {
         Ok(prepared) => show_regions(
             rt,
             case,

@@ -128,7 +128,11 @@ fn show_case(rt: &HostRuntime, case: &Case) -> io::Result<()> {
 }
 
 fn show_networks(rt: &HostRuntime, case: &Case, networks: &Networks) -> io::Result<()> {
-    match Prepared::of(rt.alloc(), networks.old(), networks.new()) {
+    let both = net_forms::Networks {
+        old: networks.old(),
+        new: networks.new(),
+    };
+    match Prepared::of(rt.alloc(), both) {
         Ok(prepared) => show_prepared(rt, case, &prepared),
         Err(_) => println!(rt; "  no memory"),
     }
