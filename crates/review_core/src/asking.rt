@@ -10,7 +10,6 @@ ghost use Rattle.job_core.specs.Causes.{HasCause, WasRead};
 ghost use Rattle.job_core.specs.Steps.{OrNoMemory};
 ghost use Rattle.review_core.specs.Job.{Asks, AsksOn, AsksOver, AsksWith, IsAnswering, asked_network};
 
-use crate::workers::Workers;
 use ask_query::{QuestionFail, answer, answers_bytes, failed_count, read_questions};
 use job_core::{Report, Stop, Wires, read_bytes, read_table};
 use job_inputs::read_folder;
@@ -21,7 +20,7 @@ use review_args::Asking;
 use std::alloc::Global;
 use std::sync::Wait;
 use std::thread::Threads;
-use steal_pool::Gate;
+use steal_pool::{Gate, Workers};
 use topo_links::LinkTable;
 
 /// The answers to the questions of a file on the network of a folder.
@@ -153,16 +152,7 @@ fn answering<R: Threads + Wait + Sync, G: Gate + Sync>(
     requires { IsTtl ttl }
     ensures { IfOk result (IsAnswering numbered.now questions.now ttl) }
 {
-    let answers = answer(
-        by.rt,
-        alloc,
-        &numbered.old,
-        &numbered.links,
-        questions,
-        ttl,
-        by.count,
-        by.gate,
-    )?;
+    let answers = answer(by, alloc, &numbered.old, &numbered.links, questions, ttl)?;
     let text = answers_bytes(alloc, &answers)?;
     let affected = failed_count(&answers) > 0;
     Ok(Report { text, affected })

@@ -12,10 +12,10 @@ ghost use Rattle.review_core.specs.Job.{AreFew, Compares, ComparesWith, Compares
 
 use crate::rows::any_rows;
 use crate::tables::{Tables, read_tables};
-use crate::workers::Workers;
 use job_core::{Report, Stop};
 use job_inputs::read_folder;
 use net_compare::compare_worlds;
+use net_forms::Networks;
 use net_io::Files;
 use net_load::{NumberedBoth, number_both};
 use net_types::{Loaded, NoMemory, Section};
@@ -25,7 +25,7 @@ use review_args::Comparison;
 use std::alloc::Global;
 use std::sync::Wait;
 use std::thread::Threads;
-use steal_pool::Gate;
+use steal_pool::{Gate, Workers};
 
 /// The report on two folders, wired by a link table; or by one each, where there are new links.
 pub(crate) fn compare_folders<F: Files, R: Threads + Wait + Sync, G: Gate + Sync>(
@@ -144,22 +144,15 @@ fn sections_of<R: Threads + Wait + Sync, G: Gate + Sync>(
     requires { IsTtl ttl }
     ensures { IfOk result (λ sections. IsReport numbered.now.ingress (world numbered.now.old numbered.now.old_links) (world numbered.now.new numbered.now.new_links) ttl sections.items) }
 {
-    let before = WorldRef {
-        network: &numbered.old,
-        links: &numbered.old_links,
+    let networks = Networks {
+        old: WorldRef {
+            network: &numbered.old,
+            links: &numbered.old_links,
+        },
+        new: WorldRef {
+            network: &numbered.new,
+            links: &numbered.new_links,
+        },
     };
-    let after = WorldRef {
-        network: &numbered.new,
-        links: &numbered.new_links,
-    };
-    compare_worlds(
-        by.rt,
-        alloc,
-        before,
-        after,
-        numbered.ingress.as_slice(),
-        ttl,
-        by.count,
-        by.gate,
-    )
+    compare_worlds(by, alloc, networks, numbered.ingress.as_slice(), ttl)
 }

@@ -7,7 +7,6 @@ ghost use Rattle.job_core.specs.Steps.{OrNoMemory};
 ghost use Rattle.review_core.specs.Job.{IsSummaryOf};
 
 use crate::rows::any_rows;
-use crate::workers::Workers;
 use job_core::{Report, Stop};
 use net_compare::compare;
 use net_gen::generate;
@@ -17,7 +16,7 @@ use report_text::summary_bytes;
 use std::alloc::Global;
 use std::sync::Wait;
 use std::thread::Threads;
-use steal_pool::Gate;
+use steal_pool::{Gate, Workers};
 
 // Packets enter with the greatest TTL.
 const FIRST_TTL: u8 = 255;
@@ -57,14 +56,12 @@ fn summary_of<R: Threads + Wait + Sync, G: Gate + Sync>(
     ensures { IfOk result (IsSummaryOf numbered.now) }
 {
     let sections = compare(
-        by.rt,
+        by,
         alloc,
         &numbered.old,
         &numbered.new,
         &numbered.links,
         FIRST_TTL,
-        by.count,
-        by.gate,
     )?;
     let text = summary_bytes(alloc, numbered.old.devices.as_slice().len(), &sections)?;
     let affected = any_rows(&sections);

@@ -13,7 +13,6 @@ mod rows;
 mod tables;
 mod top;
 mod tracing;
-mod workers;
 
 pub use tables::Tables;
 pub use top::run;

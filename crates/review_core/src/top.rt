@@ -13,14 +13,13 @@ use crate::comparison::compare_folders;
 use crate::generated::compare_generated;
 use crate::reading::read_network;
 use crate::tracing::trace_in_folder;
-use crate::workers::Workers;
 use job_core::{Report, Stop, finish, no_memory, refuse};
 use net_io::{Files, Sink};
 use review_args::{Job, WordsFail, read_words};
 use std::alloc::Global;
 use std::sync::Wait;
 use std::thread::Threads;
-use steal_pool::Gate;
+use steal_pool::{Gate, Workers};
 
 // What is written where the words are outside the usage.
 const USAGE: &[u8] = b"usage:
