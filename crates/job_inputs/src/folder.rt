@@ -47,7 +47,7 @@ fn stop_of(alloc: Global, fail: LoadFail) -> Stop
     }
 }
 
-fn refused(alloc: Global, path: Text, refusal: Refusal) -> Stop
+pub(crate) fn refused(alloc: Global, path: Text, refusal: Refusal) -> Stop
     ensures { (result ≡ Stop.Refused path refusal.line (kind_text refusal.kind) refusal.word) ⊎ (result ≡ Stop.NoMemory) }
 {
     match Text::copy_of(alloc, refusal.kind.name().as_bytes()) {

@@ -1,6 +1,8 @@
-//! The folder of configurations that a job reads.
+//! The configurations that a job reads: those of a folder, or one by itself.
 #![tactic(auto)]
 
+mod config;
 mod folder;
 
+pub use config::config_in;
 pub use folder::read_folder;

@@ -7,3 +7,4 @@ pub mod ByName
 pub mod Check
 pub mod NetIndex
 pub mod Shared
+pub mod Twice

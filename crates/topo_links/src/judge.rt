@@ -34,7 +34,7 @@ fn unknown_device<'t>(old: &NetIndex, new: &NetIndex, ends: &'t [(Text, Text)]) 
 }
 
 /// An address as four numbers with dots between.
-fn dotted(alloc: Global, address: u32) -> Result<Text, NoMemory>
+pub(crate) fn dotted(alloc: Global, address: u32) -> Result<Text, NoMemory>
     ensures { IfOk result (λ text. text ≡ dotted address) }
 {
     let first = address / 16777216;

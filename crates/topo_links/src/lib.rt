@@ -15,8 +15,10 @@ mod reader;
 mod shared;
 mod table;
 mod taken;
+mod twice;
 
 pub use judge::{check, check_own};
 pub use names::NameIndex;
 pub use reader::read_links;
 pub use table::{LinkFail, LinkKind, LinkLine, LinkRefusal, LinkTable};
+pub use twice::address_twice;

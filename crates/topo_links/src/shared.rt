@@ -32,7 +32,7 @@ fn is_seen(seen: &IndexSet<u32>, address: u32) -> bool
 }
 
 /// The lesser of two addresses, of which the second may be missing.
-fn lesser(address: u32, other: Option<u32>) -> Option<u32>
+pub(crate) fn lesser(address: u32, other: Option<u32>) -> Option<u32>
     ensures { result ≡ lesser address other }
 {
     match other {
