@@ -1,0 +1,12 @@
+use Rattle.std.proofs.Common.{◌≡◌, All, take, map}
+use Rattle.rollout.specs.Steps.{AllHold, networks, world}
+use Rattle.rollout.proofs.StepLemmas.{network_after_all}
+use Rattle.rollout.proofs.steps.check_rollout.Given as goal
+
+abbrev pub invariant-loop-change : goal.invariant-loop-change
+invariant-loop-change g l = record {
+  step : l.step ≡ l.change-index;
+  network : l.network ≡ network_after_all l.rollout.base.now (take l.change-index l.rollout.changes.now);
+  meets : AllHold l.ttl l.questions (world l.rollout.links.now l.network);
+  hold : All (AllHold l.ttl l.questions) (map (world l.rollout.links.now) (networks l.rollout.base.now (take l.change-index l.rollout.changes.now)));
+}
