@@ -1,0 +1,241 @@
+-- Reviews: as they are opened, and after an edit.
+use Rattle.std.proofs.Common.{ℕ, ◌≡◌, ◌<◌, ◌≤◌, ◌==◌, inl, inr, Bool, true, false, not, cond, List, [], ◌∷◌, ◌++◌, Option, Some, None, IsSome, Ok, length, slice_get, ◌+◌, refl, ap, sym, ◌∙◌, subst, eq-eqb, arith}
+use Rattle.std.specs.Prelude.{Contains, count_by, filter}
+use Rattle.std.proofs.lemmas.Bool.{cases_Bool}
+use Rattle.std.proofs.lemmas.Bool.Decides.{nat_tests}
+use Rattle.std.proofs.lemmas.List.{append-nil}
+use Rattle.std.proofs.lemmas.List.Elements.{Contains-append_cases}
+use Rattle.std.proofs.lemmas.List.Sums.{count_by-le-length}
+use Rattle.std.proofs.lemmas.List.Filters.{sum_by-filter_both}
+use Rattle.hdr_bits.specs.declared.header.Header.{Header}
+use Rattle.hdr_bits.specs.HeaderBits.{number, IsHeader}
+use Rattle.cube_diagram.specs.Functions.{Functions, Keeps, count_of, value_at}
+use Rattle.net_types.specs.declared.network.Network.{Network}
+use Rattle.net_types.specs.declared.network.Place.{Place}
+use Rattle.net_types.specs.World.{World}
+use Rattle.net_types.specs.Edits.{DiffersOnlyAt}
+use Rattle.net_types.specs.Visits as visiting
+use Rattle.net_types.proofs.Members.{in_none, in_filter, to_any}
+use Rattle.net_types.proofs.OneEdit.{edited_differs}
+use Rattle.net_types.proofs.SameWalks.{labels_alike, visits_alike}
+use Rattle.net_types.proofs.Unvisited.{unvisited_walks}
+use Rattle.set_walk.specs.Sets.{InSet}
+use Rattle.set_walk.proofs.SetLemmas.{kept_set, kept_below}
+use Rattle.incr_review.specs.declared.edits.Edit.{Edit}
+use Rattle.incr_review.specs.declared.regions.Region.{Region}
+use Rattle.incr_review.specs.Edited.{device_of, edited}
+use Rattle.incr_review.specs.Reviews.{ReviewState, IsReview, edited_world}
+use Rattle.incr_review.specs.Parts.{ones}
+use Rattle.incr_review.specs.Regions.{stays, in_region, IsRight, AreReviewed, StartsWith}
+use Rattle.incr_review.specs.Again.{leaves, ArePlaced, AreRegionsOf, AreAgain, AddsAgain}
+use Rattle.incr_review.specs.Opened.{AreOpened}
+use Rattle.incr_review.proofs.EditLemmas.{edited_there}
+use Rattle.incr_review.proofs.PartLemmas.{filled_kept}
+use Rattle.incr_review.proofs.RegionLemmas.{split_count, region_counts_kept, again_nothing}
+
+-- ---- opened
+pub nothing_opened : (w : World) (t : ℕ) (ingress : List Place) (f : Functions) → AreOpened w t ingress f 0 []
+nothing_opened w t ingress f =
+    record {
+      below = λ r c. absurd (in_none r c);
+      placed = λ r c. absurd (in_none r c);
+      some = λ r c. absurd (in_none r c);
+      one = λ s h l v. absurd (omega (arith, l));
+      none = λ s h l v. refl;
+      right = λ r p h c e v i. absurd (in_none r c);
+    }
+
+one_of_all : (o : Option ℕ) → IsSome o → ones o ≡ 1
+one_of_all None i = cc
+one_of_all (Some v) i = refl
+
+module _ (w : World) (t : ℕ) (ingress : List Place) (e g : Functions) (n scope : ℕ) (rs more : List Region)
+    (k : Keeps e g) (l : n < length ingress) (all : (h : Header) → InSet g scope h)
+    (before : AreOpened w t ingress e n rs) (own : AreRegionsOf w t ingress n None g scope more) where
+  both_counts : (s : ℕ) (h : Header) (a b : ℕ) → count_by (in_region g s h) rs ≡ a → count_by (in_region g s h) more ≡ b → count_by (in_region g s h) (rs ++ more) ≡ a + b
+  both_counts s h a b x y = split_count (in_region g s h) rs more ∙ (λ i. x i + y i)
+
+  pub opened_more : AreOpened w t ingress g (n + 1) (rs ++ more)
+  opened_more =
+      record {
+        below = λ r c. elim (Contains-append_cases rs more r c) [ inl d ↦ kept_below e g r.headers k (before.below r d) | inr d ↦ own.below r d ];
+        placed = λ r c. elim (Contains-append_cases rs more r c) [ inl d ↦ before.placed r d | inr d ↦ subst (λ m. m < length ingress) (sym (own.slot_is r d)) l ];
+        some = λ r c. elim (Contains-append_cases rs more r c) [ inl d ↦ filled_kept e g r.headers k (before.below r d) (before.some r d) | inr d ↦ own.some r d ];
+        one = λ s h m v. elim (cases_Bool (s == n)) [
+          | inl y ↦ (
+              let same : n ≡ s = grind (arith, nat_tests, y) in
+              let a = region_counts_kept e g s h k rs before.below ∙ before.none s h (omega (arith, same)) v in
+              let b : count_by (in_region g s h) more ≡ 1 = subst (λ z. count_by (in_region g z h) more ≡ 1) same (own.one h v ∙ one_of_all (value_at g scope (number h)) (all h)) in
+              both_counts s h 0 1 a b)
+          | inr y ↦ (
+              let differs : s ≡ n → ⊥ = λ d. (let x : (s == n) ≡ true = eq-eqb s n d in let both : false ≡ true = sym y ∙ x in absurd cc) in
+              let below : s < n = omega (arith, m, differs) in
+              both_counts s h 1 0 (region_counts_kept e g s h k rs before.below ∙ before.one s h below v) (own.other s h differs))
+        ];
+        none = λ s h m v.
+            let differs : s ≡ n → ⊥ = λ d. omega (arith, m, d) in
+            let beyond : n ≤ s = omega (arith, m) in
+            both_counts s h 0 0 (region_counts_kept e g s h k rs before.below ∙ before.none s h beyond v) (own.other s h differs);
+        right = λ r p h c at v i. elim (Contains-append_cases rs more r c) [
+          | inl d ↦ before.right r p h d at v ((kept_set e g r.headers h k (before.below r d)).0 i)
+          | inr d ↦ (own.old_is r d, (own.right r p h d (subst (λ m. slice_get ingress m ≡ Some p) (own.slot_is r d) at) v i).1)
+        ];
+      }
+
+pub opened_reviewed : (w : World) (t : ℕ) (ingress : List Place) (f : Functions) (rs : List Region) → AreOpened w t ingress f (length ingress) rs → AreReviewed w w t ingress f rs
+opened_reviewed w t ingress f rs a =
+    record {
+      right = record {
+        below = a.below;
+        placed = a.placed;
+        some = a.some;
+        right = λ r p h c at v i. let o = a.right r p h c at v i in record { before = o.1.label_is ∙ sym o.0; after = o.1 };
+      };
+      one = λ s h l v. a.one s h l v;
+    }
+
+-- ---- of the table as it was
+pub again_from : (w : World) (t : ℕ) (ingress : List Place) (f e : Functions) (bs : List Region) (g : Functions) (more : List Region) → Keeps f e → ((r : Region) → Contains bs r → r.headers < count_of f) → AreAgain w t ingress e bs g more → AreAgain w t ingress f bs g more
+again_from w t ingress f e bs g more k b a =
+    record {
+      below = a.below;
+      placed = a.placed;
+      some = a.some;
+      one = λ s h v. a.one s h v ∙ region_counts_kept f e s h k bs b;
+      was = λ r p h c at v i.
+          let o = a.was r p h c at v i in
+          (record { region = o.0.region; among = o.0.among; inside = (kept_set f e o.0.region.headers h k (b o.0.region o.0.among)).0 o.0.inside; slot = o.0.slot; old = o.0.old }, o.1);
+    }
+
+-- ---- edited
+not_device : (d : ℕ) (r : Region) → stays d r ≡ true → Contains r.devices d → ⊥
+not_device d r s c =
+    let a = to_any (λ x. x == d) r.devices d c (eq-eqb d d refl) in
+    let both : false ≡ true = sym (ap not a) ∙ s in
+    absurd cc
+
+module _ (old w0 w1 : World) (t : ℕ) (ingress : List Place) (f g : Functions) (d : ℕ) (rs more : List Region)
+    (differs : DiffersOnlyAt w0 w1 d) (k : Keeps f g)
+    (before : AreReviewed old w0 t ingress f rs)
+    (again : AreAgain w1 t ingress f (filter (leaves d) rs) g more) where
+  keeps : List Region
+  keeps = filter (stays d) rs
+
+  kept_right : (r : Region) (p : Place) (h : Header) → Contains (filter (stays d) rs) r → slice_get ingress r.slot ≡ Some p → IsHeader h → InSet g r.headers h → IsRight old w1 t p h r
+  kept_right r p h c at v i =
+      let m = in_filter (stays d) rs r c in
+      let o = before.right.right r p h m.0 at v ((kept_set f g r.headers h k (before.right.below r m.0)).0 i) in
+      let away : visiting.Visits w0 t p h d → ⊥ = λ x. not_device d r m.1 ((o.after.visits d).1 x) in
+      let alike = unvisited_walks w0 w1 d differs t p h away in
+      let same = visits_alike w0 w1 t p h alike t (omega arith) in
+      record {
+        before = o.before;
+        after = record {
+          label_is = sym (labels_alike w0 w1 t p h alike t (omega arith)) ∙ o.after.label_is;
+          visits = λ n. (λ x. (same n).0 ((o.after.visits n).0 x), λ x. (o.after.visits n).1 ((same n).1 x));
+        };
+      }
+
+  kept_item : (r : Region) → Contains (filter (stays d) rs) r → Contains rs r
+  kept_item r c = (in_filter (stays d) rs r c).0
+
+  -- a header of a region that was walked again had its old label
+  again_right : (r : Region) (p : Place) (h : Header) → Contains more r → slice_get ingress r.slot ≡ Some p → IsHeader h → InSet g r.headers h → IsRight old w1 t p h r
+  again_right r p h c at v i =
+      let o = again.was r p h c at v i in
+      let m = in_filter (leaves d) rs o.0.region o.0.among in
+      let x = before.right.right o.0.region p h m.0 (subst (λ n. slice_get ingress n ≡ Some p) (sym o.0.slot) at) v o.0.inside in
+      record { before = x.before ∙ o.0.old; after = o.1 }
+
+  pub reviewed_after : AreReviewed old w1 t ingress g (filter (stays d) rs ++ more)
+  reviewed_after =
+      record {
+        right = record {
+          below = λ r c. elim (Contains-append_cases (filter (stays d) rs) more r c) [ inl x ↦ kept_below f g r.headers k (before.right.below r (kept_item r x)) | inr x ↦ again.below r x ];
+          placed = λ r c. elim (Contains-append_cases (filter (stays d) rs) more r c) [ inl x ↦ before.right.placed r (kept_item r x) | inr x ↦ again.placed r x ];
+          some = λ r c. elim (Contains-append_cases (filter (stays d) rs) more r c) [ inl x ↦ filled_kept f g r.headers k (before.right.below r (kept_item r x)) (before.right.some r (kept_item r x)) | inr x ↦ again.some r x ];
+          right = λ r p h c at v i. elim (Contains-append_cases (filter (stays d) rs) more r c) [ inl x ↦ kept_right r p h x at v i | inr x ↦ again_right r p h x at v i ];
+        };
+        one = λ s h l v.
+            let a = region_counts_kept f g s h k (filter (stays d) rs) (λ r c. before.right.below r (kept_item r c)) in
+            let b = again.one s h v in
+            let whole = sum_by-filter_both (stays d) (leaves d) (λ x. refl) (λ r. cond (in_region f s h r) 1 0) rs in
+            split_count (in_region g s h) (filter (stays d) rs) more ∙ ((λ i. a i + b i) ∙ (whole ∙ before.one s h l v));
+      }
+
+-- ---- where no region leaves
+all_pass : {X : Type 0} (p : X → Bool) (xs : List X) → count_by p xs ≡ length xs → filter p xs ≡ xs
+all_pass p [] e = refl
+all_pass p (x ∷ xs) e = by (all_pass p xs) (p x) refl
+  where
+    by : (count_by p xs ≡ length xs → filter p xs ≡ xs) → (b : Bool) → p x ≡ b → cond b (x ∷ filter p xs) (filter p xs) ≡ x ∷ xs
+    by rest true t =
+        let s = split_count p (x ∷ []) xs in
+        let n : count_by p (x ∷ []) ≡ 1 = ap (λ b. 0 + cond b 1 0) t in
+        ap (λ ys. x ∷ ys) (rest (omega (arith, s, n, e)))
+    by rest false t =
+        let s = split_count p (x ∷ []) xs in
+        let n : count_by p (x ∷ []) ≡ 0 = ap (λ b. 0 + cond b 1 0) t in
+        let m = count_by-le-length p xs in
+        absurd (omega (arith, s, n, e, m))
+
+none_pass : {X : Type 0} (p : X → Bool) (xs : List X) → count_by p xs ≡ length xs → filter (λ x. not (p x)) xs ≡ []
+none_pass p [] e = refl
+none_pass p (x ∷ xs) e = by (none_pass p xs) (p x) refl
+  where
+    by : (count_by p xs ≡ length xs → filter (λ y. not (p y)) xs ≡ []) → (b : Bool) → p x ≡ b → cond (not b) (x ∷ filter (λ y. not (p y)) xs) (filter (λ y. not (p y)) xs) ≡ []
+    by rest true t =
+        let s = split_count p (x ∷ []) xs in
+        let n : count_by p (x ∷ []) ≡ 1 = ap (λ b. 0 + cond b 1 0) t in
+        rest (omega (arith, s, n, e))
+    by rest false t =
+        let s = split_count p (x ∷ []) xs in
+        let n : count_by p (x ∷ []) ≡ 0 = ap (λ b. 0 + cond b 1 0) t in
+        let m = count_by-le-length p xs in
+        absurd (omega (arith, s, n, e, m))
+
+pub same_table : (f : Functions) → Keeps f f
+same_table f = record { count = omega arith; value = λ i l h. refl }
+
+pub all_stay : (d : ℕ) (rs : List Region) → count_by (stays d) rs ≡ length rs → filter (stays d) rs ≡ rs
+all_stay d rs e = all_pass (stays d) rs e
+
+pub reviewed_same : (old w0 w1 : World) (t : ℕ) (ingress : List Place) (f : Functions) (d : ℕ) (rs : List Region) → DiffersOnlyAt w0 w1 d → count_by (stays d) rs ≡ length rs → AreReviewed old w0 t ingress f rs → AreReviewed old w1 t ingress f rs
+reviewed_same old w0 w1 t ingress f d rs differs e before =
+    let none = subst (λ (bs : List Region). AreAgain w1 t ingress f bs f []) (sym (none_pass (stays d) rs e)) (again_nothing w1 t ingress f f) in
+    let after = reviewed_after old w0 w1 t ingress f f d rs [] differs (same_table f) before none in
+    subst (AreReviewed old w1 t ingress f) (append-nil (filter (stays d) rs) ∙ all_stay d rs e) after
+
+-- ---- a review after an edit
+edit_differs : (r : ReviewState) (e : Edit) (network : Network) → edited e r.edited ≡ Ok network → DiffersOnlyAt (edited_world r) (record { network = network; links = r.baseline.links }) (device_of e)
+edit_differs r e network q = edited_differs (edited_world r) (record { network = network; links = r.baseline.links }) (device_of e) refl (edited_there e r.edited network q)
+
+pub all_kept : (d kept walked : ℕ) (rs : List Region) → kept ≡ count_by (stays d) rs → kept + walked ≡ length rs → walked ≡ 0 → count_by (stays d) rs ≡ length rs
+all_kept d kept walked rs a b z = omega (arith, a, b, z)
+
+pub edit_same : (r : ReviewState) (e : Edit) (network : Network) (dev kept walked : ℕ) (rs : List Region) → IsReview r → edited e r.edited ≡ Ok network → dev ≡ device_of e → rs ≡ r.regions → kept ≡ count_by (stays dev) rs → kept + walked ≡ length rs → walked ≡ 0 → IsReview (record { baseline = r.baseline; edited = network; ttl = r.ttl; table = r.table; regions = r.regions })
+edit_same r e network dev kept walked rs a q n s k b z =
+    let counts : count_by (stays (device_of e)) r.regions ≡ length r.regions = subst (λ m. count_by (stays m) r.regions ≡ length r.regions) n (subst (λ (xs : List Region). count_by (stays dev) xs ≡ length xs) s (all_kept dev kept walked rs k b z)) in
+    record {
+      least = a.least;
+      reviewed = reviewed_same r.baseline (edited_world r) (record { network = network; links = r.baseline.links }) r.ttl r.baseline.links.ingress r.table (device_of e) r.regions (edit_differs r e network q) counts a.reviewed;
+    }
+
+pub first_same : (r : ReviewState) (e : Edit) (dev kept walked : ℕ) (rs : List Region) → dev ≡ device_of e → rs ≡ r.regions → kept ≡ count_by (stays dev) rs → kept + walked ≡ length rs → walked ≡ 0 → StartsWith (filter (stays (device_of e)) r.regions) r.regions
+first_same r e dev kept walked rs n s k b z =
+    let counts : count_by (stays (device_of e)) r.regions ≡ length r.regions = subst (λ m. count_by (stays m) r.regions ≡ length r.regions) n (subst (λ (xs : List Region). count_by (stays dev) xs ≡ length xs) s (all_kept dev kept walked rs k b z)) in
+    record { rest = []; are = sym (append-nil (filter (stays (device_of e)) r.regions) ∙ all_stay (device_of e) r.regions counts) }
+
+pub edit_walked : (r : ReviewState) (e : Edit) (network : Network) (dev : ℕ) (g : Functions) (rs news : List Region) → IsReview r → edited e r.edited ≡ Ok network → dev ≡ device_of e → rs ≡ r.regions → Keeps r.table g → AddsAgain (record { network = network; links = r.baseline.links }) r.ttl r.baseline.links.ingress r.table (filter (leaves dev) rs) g (filter (stays dev) rs) news → IsReview (record { baseline = r.baseline; edited = network; ttl = r.ttl; table = g; regions = news })
+edit_walked r e network dev g rs news a q n s k x =
+    let w : World = record { network = network; links = r.baseline.links } in
+    let y = subst (λ m. AddsAgain w r.ttl r.baseline.links.ingress r.table (filter (leaves m) r.regions) g (filter (stays m) r.regions) news) n
+    (subst (λ (xs : List Region). AddsAgain w r.ttl r.baseline.links.ingress r.table (filter (leaves dev) xs) g (filter (stays dev) xs) news) s x) in
+    record {
+      least = a.least;
+      reviewed = subst (AreReviewed r.baseline w r.ttl r.baseline.links.ingress g) (sym y.added)
+          (reviewed_after r.baseline (edited_world r) w r.ttl r.baseline.links.ingress r.table g (device_of e) r.regions y.more (edit_differs r e network q) k a.reviewed y.are);
+    }
+
+pub regions_placed : (r : ReviewState) → IsReview r → ArePlaced r.baseline.links.ingress r.table r.regions
+regions_placed r a x c = (a.reviewed.right.placed x c, a.reviewed.right.below x c)

@@ -1,0 +1,12 @@
+pub mod Same
+pub mod Edited
+pub mod Entries
+pub mod Facts
+pub mod Parts
+pub mod Walked
+pub mod Regions
+pub mod Again
+pub mod Groups
+pub mod Opened
+pub mod Reviews
+pub mod Sections

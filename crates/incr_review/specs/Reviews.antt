@@ -1,0 +1,37 @@
+-- A review.
+use Rattle.std.specs.Prelude.{ℕ, ◌≡◌, ◌≤◌, List, length}
+use Rattle.std.specs.List.{sum_by}
+use Rattle.cube_diagram.specs.Functions.{Functions}
+use Rattle.net_types.specs.declared.network.Network.{Network}
+use Rattle.net_types.specs.declared.network.Section.{Section}
+use Rattle.net_types.specs.World.{World}
+use Rattle.net_types.specs.Report.{IsReport}
+use Rattle.incr_review.specs.declared.regions.Region.{Region}
+use Rattle.incr_review.specs.Regions.{AreReviewed}
+
+-- the old network with the links, the edited network, the TTL, and the regions, whose sets are functions of the table
+pub record ReviewState : Type 0 where
+  pub baseline : World
+  pub edited : Network
+  pub ttl : ℕ
+  pub table : Functions
+  pub regions : List Region
+
+-- the edited network with the same links
+abbrev pub edited_world : ReviewState → World
+edited_world r = record { network = r.edited; links = r.baseline.links }
+
+-- each header at each ingress is in exactly one region, which says what is so of it in both worlds
+pub record IsReview (r : ReviewState) : Type 0 where
+  pub least : 1 ≤ r.ttl
+  pub reviewed : AreReviewed r.baseline (edited_world r) r.ttl r.baseline.links.ingress r.table r.regions
+
+-- all rows of the sections
+abbrev pub row_total : List Section → ℕ
+row_total sections = sum_by (λ s. length s.rows) sections
+
+-- the report has so many rows
+pub record HasRows (r : ReviewState) (count : ℕ) : Type 0 where
+  pub sections : List Section
+  pub report : IsReport r.baseline.links.ingress r.baseline (edited_world r) r.ttl sections
+  pub count_is : count ≡ row_total sections

@@ -1,0 +1,94 @@
+//! The device that an edit changes, as it is after it.
+
+ghost use Rattle.std.specs.Prelude.{◌≡◌, ◌<◌, position, length, slice_set, IfOk, IfErr};
+ghost use Rattle.incr_review.specs.Edited.{IsFailOf, device_of, device_edited, edited, is_named};
+
+use crate::edits::{Edit, EditFail, EditKind};
+use crate::rules::edited_rules;
+use net_types::{Config, Duplicate, List, NetDevice, Network};
+use std::alloc::Global;
+use std::mem;
+
+/// A device as it is after an edit, with its position in the network.
+#[derive(Drop)]
+pub struct EditedDevice {
+    pub position: usize,
+    pub device: NetDevice,
+}
+
+/// The device that the edit changes, as it is after the edit: put at its position it makes the edited network.
+///
+/// An edit is refused with the first of these causes that is there: the network has no device of the number, the device has no
+/// list of the name, the list has the sequence of an added entry or no entry of a dropped one, the device has no route that is
+/// equal to a dropped one. Other kinds are not answered.
+pub fn edited_device(
+    alloc: Global,
+    network: &Network,
+    edit: &Edit,
+) -> Result<EditedDevice, EditFail>
+    ensures within { IfOk result (λ r. r.position < length network.now.devices) }
+    ensures ok { IfOk result (λ r. edited edit.now network.now ≡ Ok (record { devices = slice_set network.now.devices r.position r.device })) }
+    ensures fail { IfErr result (IsFailOf (edited edit.now network.now)) }
+{
+    let devices = network.devices.as_slice();
+    let Some(position) = device_position(devices, edit.device()) else {
+        return Err(EditFail::Refused {
+            kind: EditKind::UnknownDevice,
+        });
+    };
+    let device = edited_at(alloc, &devices[position], edit)?;
+    Ok(EditedDevice { position, device })
+}
+
+/// The network after the edit, refused as above.
+pub(crate) fn edited_network(
+    alloc: Global,
+    network: &Network,
+    edit: &Edit,
+) -> Result<Network, EditFail>
+    ensures ok { IfOk result (λ r. edited edit.now network.now ≡ Ok r) }
+    ensures fail { IfErr result (IsFailOf (edited edit.now network.now)) }
+{
+    let changed = edited_device(alloc, network, edit)?;
+    let mut devices = network.devices.copy_items(alloc)?.into_vec();
+    devices[changed.position] = changed.device;
+    Ok(Network {
+        devices: List::new(devices),
+    })
+}
+
+/// Puts the device at its position, in place of the one that is there.
+pub(crate) fn put_device(alloc: Global, network: &mut Network, changed: EditedDevice)
+    requires { changed.position < length network.old.devices }
+    ensures { network.new ≡ record { devices = slice_set network.old.devices changed.position changed.device } }
+{
+    let EditedDevice { position, device } = changed;
+    let mut devices = mem::replace(&mut network.devices, List::empty(alloc)).into_vec();
+    devices[position] = device;
+    network.devices = List::new(devices);
+}
+
+fn device_position(devices: &[NetDevice], number: u32) -> Option<usize>
+    ensures { result ≡ position (is_named number) devices.now }
+{
+    devices.iter().position(|device| device.name == number)
+}
+
+fn edited_at(alloc: Global, device: &NetDevice, edit: &Edit) -> Result<NetDevice, EditFail>
+    ensures ok { IfOk result (λ r. device_edited edit.now device.now ≡ Ok r) }
+    ensures fail { IfErr result (IsFailOf (device_edited edit.now device.now)) }
+{
+    let rules = edited_rules(alloc, &device.config, edit)?;
+    let config = Config {
+        hostname: device.config.hostname.copy(alloc)?,
+        interfaces: device.config.interfaces.copy_items(alloc)?,
+        routes: rules.routes,
+        lists: rules.lists,
+        nat: device.config.nat.copy_items(alloc)?,
+    };
+    Ok(NetDevice {
+        name: device.name,
+        config,
+        numbers: device.numbers.copy_items(alloc)?,
+    })
+}

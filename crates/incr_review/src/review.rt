@@ -1,0 +1,150 @@
+//! A review: two networks, of which the second is edited, and what the headers at each ingress do in both.
+
+ghost use Rattle.std.specs.Prelude.{◌≡◌, ◌≤◌, ◌<◌, ◌^◌, length, count_by};
+
+use crate::edited::{edited_device, edited_network, put_device};
+use crate::edits::{Edit, EditFail};
+use crate::regions::{Region, Touched, touched_by};
+use crate::sections::{row_total, sections_of};
+use crate::walks::{Leaving, opened, regions_after};
+use cube_diagram::Diagrams;
+use net_types::{Duplicate, Links, Network, NoMemory, Section};
+use net_view::WorldRef;
+use std::alloc::Global;
+use std::marker::Model;
+
+/// A review of an edited network against the old one, with the same links and one TTL.
+///
+/// Each header at each ingress is in exactly one region, and a region says what is so of each of its headers. That is so after
+/// every edit, refused ones included.
+#[derive(Drop)]
+pub struct Review<'a> {
+    /// The old network, with the links of both.
+    baseline: WorldRef<'a>,
+    edited: Network,
+    ttl: u8,
+    /// The table that has the sets of the regions.
+    table: Diagrams,
+    regions: Vec<Region>,
+}
+
+impl<'a> Model for Review<'a> {
+    ghost use Rattle.std.specs.Prelude.{◌≤◌};
+    ghost use Rattle.net_view.specs.Borrowed.{world_of};
+    ghost use Rattle.incr_review.specs.Reviews.{ReviewState, IsReview};
+
+    // Contracts see the two networks, the links, the TTL and the regions with their table.
+    ghost Value = { ReviewState };
+
+    ghost view = { λ r. record { baseline = world_of r.baseline; edited = r.edited; ttl = r.ttl; table = r.table; regions = r.regions.items } };
+
+    ghost invariant = { λ r. IsReview (record { baseline = world_of r.baseline; edited = r.edited; ttl = r.ttl; table = r.table; regions = r.regions.items }) };
+}
+
+impl<'a> Review<'a> {
+    ghost use Rattle.std.specs.Prelude.{◌+◌, Ok, IfOk, OnOk, IfErr, OnErr, filter};
+    ghost use Rattle.cube_diagram.specs.Functions.{Keeps};
+    ghost use Rattle.incr_review.specs.Edited.{IsFailOf, device_of, edited};
+    ghost use Rattle.incr_review.specs.Regions.{stays, StartsWith};
+    ghost use Rattle.incr_review.specs.Reviews.{HasRows, IsReview, edited_world};
+    ghost use Rattle.net_types.specs.Report.{IsReport};
+
+    /// A review in which nothing was edited yet: the edited network is a copy of the old one.
+    ///
+    /// The TTL is at least 1, and there are fewer than `2^32` ingresses. It answers `NoMemory` only where there was none.
+    pub fn open(
+        alloc: Global,
+        old: &'a Network,
+        links: &'a Links,
+        ttl: u8,
+    ) -> Result<Review<'a>, NoMemory>
+        requires least { 1 ≤ ttl }
+        requires few { length links.now.ingress < 2 ^ 32 }
+        ensures baseline { IfOk result (λ r. r.baseline ≡ record { network = old.now; links = links.now }) }
+        ensures edited { IfOk result (λ r. r.edited ≡ old.now) }
+        ensures ttl { IfOk result (λ r. r.ttl ≡ ttl) }
+        ensures reviewed { IfOk result IsReview }
+    {
+        let world = WorldRef {
+            network: old,
+            links,
+        };
+        let edited = old.copy(alloc)?;
+        let opened = opened(alloc, world, ttl)?;
+        Ok(Review {
+            baseline: world,
+            edited,
+            ttl,
+            table: opened.table,
+            regions: opened.regions,
+        })
+    }
+
+    /// Edits the edited network. The regions whose headers don't visit the edit's device stand first afterwards, unchanged and
+    /// in their order; the headers of the others are walked again, those of one ingress and one old label together. On any
+    /// refusal, want of memory included, the review is as before.
+    ///
+    /// # Errors
+    ///
+    /// The edit is refused, with the first cause of these that is there: there is no device of its number, the device has no list
+    /// of its name, the list has the sequence of an added entry, has no entry of a dropped one, or the device has no route
+    /// that is equal to a dropped one. Or there was no memory.
+    pub fn edit(&mut self, alloc: Global, edit: &Edit) -> Result<Touched, EditFail>
+        ensures edited { OnOk result (edited edit.now self.old.edited ≡ Ok self.new.edited) }
+        ensures baseline { self.new.baseline ≡ self.old.baseline }
+        ensures ttl { self.new.ttl ≡ self.old.ttl }
+        ensures reviewed { IsReview self.new }
+        ensures first { OnOk result (StartsWith (filter (stays (device_of edit.now)) self.old.regions) self.new.regions) }
+        ensures sets { OnOk result (Keeps self.old.table self.new.table) }
+        ensures kept { IfOk result (λ t. t.kept ≡ count_by (stays (device_of edit.now)) self.old.regions) }
+        ensures walked { IfOk result (λ t. t.kept + t.walked ≡ length self.old.regions) }
+        ensures refused { IfErr result (IsFailOf (edited edit.now self.old.edited)) }
+        ensures as_before { OnErr result (self.new ≡ self.old) }
+    {
+        let device = edit.device();
+        let touched = touched_by(&self.regions, device);
+        if touched.walked == 0 {
+            let changed = edited_device(alloc, &self.edited, edit)?;
+            put_device(alloc, &mut self.edited, changed);
+            return Ok(touched);
+        }
+        let network = edited_network(alloc, &self.edited, edit)?;
+        let world = WorldRef {
+            network: &network,
+            links: self.baseline.links,
+        };
+        let leaving = Leaving {
+            regions: &self.regions,
+            device,
+            ttl: self.ttl,
+        };
+        let after = regions_after(alloc, &self.table, world, leaving)?;
+        self.edited = network;
+        self.table = after.table;
+        self.regions = after.regions;
+        Ok(touched)
+    }
+
+    /// The report on the old and the edited network: for each ingress, in the order of the links, the canonical rows of exactly
+    /// the headers whose outcomes under the review's TTL differ, each with its two labels.
+    ///
+    /// It answers `NoMemory` only where there was none.
+    pub fn sections(&self, alloc: Global) -> Result<Vec<Section>, NoMemory>
+        ensures { IfOk result (λ r. IsReport self.now.baseline.links.ingress self.now.baseline (edited_world self.now) self.now.ttl r.items) }
+    {
+        let ingress = self.baseline.links.ingress.as_slice();
+        let sections = sections_of(alloc, &self.table, &self.regions, ingress)?;
+        Ok(sections)
+    }
+
+    /// How many rows the report has.
+    ///
+    /// It answers `NoMemory` only where there was none.
+    pub fn affected(&self, alloc: Global) -> Result<u64, NoMemory>
+        ensures rows { IfOk result (HasRows self.now) }
+    {
+        let sections = self.sections(alloc)?;
+        let count = row_total(&sections)?;
+        Ok(count)
+    }
+}

@@ -1,0 +1,136 @@
+//! From the regions of a review to the report.
+
+ghost use Rattle.std.specs.Prelude.{◌≡◌, ◌<◌, ℕ, [], IfOk, OnOk};
+ghost use Rattle.hdr_bits.specs.CubeBits.{IsIn};
+ghost use Rattle.cube_diagram.specs.Functions.{Functions, Keeps, count_of};
+ghost use Rattle.net_types.specs.World.{World};
+ghost use Rattle.net_types.specs.Report.{IsReport};
+ghost use Rattle.incr_review.specs.Regions.{AreReviewed};
+ghost use Rattle.incr_review.specs.Reviews.{row_total};
+ghost use Rattle.incr_review.specs.Sections.{AddsPair, AreBelow, ArePairsOf, IsNumbered};
+
+use crate::regions::Region;
+use cube_diagram::Diagrams;
+use hdr_bits::Cube;
+use indexmap::IndexMap;
+use net_types::{List, NoMemory, Place, Row, Section};
+use pair_rows::{LabelPairs, PairFunction, rows_of_function};
+use std::alloc::Global;
+
+/// The sections of the ingresses, in their order.
+pub(crate) fn sections_of(
+    alloc: Global,
+    table: &Diagrams,
+    regions: &[Region],
+    ingress: &[Place],
+) -> Result<Vec<Section>, NoMemory>
+    requires { AreBelow table.now regions.now }
+    ensures { IfOk result (λ r. (old new : World) (t : ℕ) → AreReviewed old new t ingress.now table.now regions.now → IsReport ingress.now old new t r.items) }
+{
+    let mut sections = Vec::with_capacity(alloc, ingress.len())?;
+    for (slot, place) in ingress.iter().enumerate() {
+        let given = pairs_of(alloc, table, regions, slot)?;
+        let rows = rows_of_function(alloc, &given)?;
+        sections.push(Section {
+            place: *place,
+            rows: List::new(rows),
+        })?;
+    }
+    Ok(sections)
+}
+
+/// How many rows the sections have. Where 64 bits don't hold it there is no memory for so many.
+pub(crate) fn row_total(sections: &[Section]) -> Result<u64, NoMemory>
+    ensures { IfOk result (λ count. count ≡ row_total sections.now) }
+{
+    let mut count = 0;
+    for section in sections {
+        let rows = section.rows.as_slice().len() as u64;
+        let Some(more) = u64::checked_add(count, rows) else {
+            return Err(NoMemory);
+        };
+        count = more;
+    }
+    Ok(count)
+}
+
+// The pairs of the headers at one ingress whose two labels differ.
+fn pairs_of(
+    alloc: Global,
+    table: &Diagrams,
+    regions: &[Region],
+    slot: usize,
+) -> Result<PairFunction, NoMemory>
+    requires { AreBelow table.now regions.now }
+    ensures { IfOk result (ArePairsOf table.now slot regions.now) }
+{
+    let mut given = no_pairs(alloc)?;
+    for region in regions {
+        if region.slot as usize == slot {
+            add_pair(alloc, table, region, &mut given)?;
+        }
+    }
+    Ok(given)
+}
+
+fn no_pairs(alloc: Global) -> Result<PairFunction, NoMemory>
+    ensures { IfOk result (λ r. (fs : Functions) (slot : ℕ) → ArePairsOf fs slot [] r) }
+{
+    let table = Diagrams::new(alloc)?;
+    let function = table.nothing();
+    Ok(PairFunction {
+        table,
+        function,
+        pairs: LabelPairs::new(alloc),
+    })
+}
+
+// With the region's pair on its headers, where its labels differ.
+fn add_pair(
+    alloc: Global,
+    source: &Diagrams,
+    region: &Region,
+    given: &mut PairFunction,
+) -> Result<(), NoMemory>
+    requires { region.now.headers < count_of source.now }
+    ensures { OnOk result (AddsPair source.now region.now given.old given.new) }
+{
+    if region.old.same(&region.new) {
+        return Ok(());
+    }
+    let mut known = IndexMap::new(alloc);
+    let set = given.table.copy_from(source, region.headers, &mut known)?;
+    let position = given.pairs.number_of(alloc, &region.old, &region.new)?;
+    let number = short(position)?;
+    let function = numbered(&mut given.table, given.function, set, number)?;
+    given.function = function;
+    Ok(())
+}
+
+// The function that gives the headers of the set that have no number this one.
+fn numbered(table: &mut Diagrams, function: u32, set: u32, number: u32) -> Result<u32, NoMemory>
+    requires function { function < count_of table.old }
+    requires set { set < count_of table.old }
+    ensures below { IfOk result (λ r. r < count_of table.new) }
+    ensures exact { IfOk result (IsNumbered table.old function set number table.new) }
+    ensures kept { Keeps table.old table.new }
+{
+    let everywhere = table.add_entry(&[all_headers()], number)?;
+    let inside = table.within(everywhere, set)?;
+    let whole = table.first_of(&[function, inside])?;
+    Ok(whole)
+}
+
+// The cube of all headers.
+fn all_headers() -> Cube
+    ensures { (h : ℕ) → IsIn result h }
+{
+    Cube { fixed: 0, bits: 0 }
+}
+
+// The same number in 32 bits: where they don't hold it there is no memory for a table of so many.
+fn short(position: usize) -> Result<u32, NoMemory>
+    ensures { IfOk result (λ number. number ≡ position) }
+{
+    u32::try_from(position).map_err(|_| NoMemory)
+}
