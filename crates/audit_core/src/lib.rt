@@ -6,4 +6,4 @@ mod text;
 mod top;
 mod words;
 
-pub use top::{USAGE, audit_run};
+pub use top::audit_run;

@@ -2,19 +2,16 @@
 
 ghost use Rattle.std.specs.Prelude.{◌≡◌, None, map, string_bytes};
 ghost use Rattle.job_core.specs.Endings.{Ends};
-ghost use Rattle.audit_core.specs.Words.{net_of, usage_text};
+ghost use Rattle.audit_core.specs.Words.{net_of};
+ghost use Rattle.rollout_words.specs.Usage.{usage_text};
 ghost use Rattle.audit_core.specs.Audits.{Does, IsAccepted};
 
 use crate::audits::audit_network;
 use crate::words::net_of;
 use job_core::{finish, refuse};
 use net_io::{Files, Sink};
+use rollout_words::USAGE;
 use std::alloc::Global;
-
-/// What is written where the words are outside the usage.
-pub const USAGE: &[u8] = b"usage:
-  audit NET
-";
 
 /// Audits the access lists of the network that the words name, and answers the status: 1 where there is a finding, else 0; and
 /// else as every program of the house.

@@ -2,7 +2,9 @@
 
 ghost use Rattle.std.specs.Prelude.{◌≡◌, map, string_bytes};
 ghost use Rattle.std.specs.Option.{option_copied};
-ghost use Rattle.audit_core.specs.Words.{net_of, is_operand};
+ghost use Rattle.audit_core.specs.Words.{net_of};
+
+use rollout_words::is_operand;
 
 /// The folder that the words want audited; none where they are outside the usage.
 pub(crate) fn net_of(words: &[String]) -> Option<&str>
@@ -16,14 +18,4 @@ pub(crate) fn net_of(words: &[String]) -> Option<&str>
         return Some(net);
     }
     None
-}
-
-// Whether it isn't empty and doesn't begin with `-`.
-fn is_operand(word: &[u8]) -> bool
-    ensures { result ≡ is_operand word.now }
-{
-    match word.first() {
-        Some(byte) => *byte != b'-',
-        None => false,
-    }
 }

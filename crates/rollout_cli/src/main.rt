@@ -6,7 +6,10 @@ use net_io::{RealFiles, RealSink};
 use rollout_core::tool;
 use std::io::ErrorKind;
 use std::process::ExitCode;
+use std::sync::Wait;
+use std::thread::Threads;
 use std::{env, io};
+use steal_pool::OpenGate;
 
 // The words of the command line, without the program's name.
 fn words(rt: &HostRuntime) -> io::Result<Vec<String>> {
@@ -18,22 +21,24 @@ fn words(rt: &HostRuntime) -> io::Result<Vec<String>> {
 }
 
 // The status of a run of these words.
-fn run_words(rt: HostRuntime, words: &[String]) -> u8 {
+fn run_words<R: Threads + Wait + Sync>(rt: &HostRuntime, threads: &R, words: &[String]) -> u8 {
     let alloc = rt.alloc();
     let mut out = RealSink::new(rt.stdout());
     let mut err = RealSink::new(rt.stderr());
     let mut files = RealFiles::new(rt);
-    tool(alloc, words, &mut files, &mut out, &mut err)
+    tool(
+        threads, alloc, words, &mut files, &mut out, &mut err, &OpenGate,
+    )
 }
 
 fn main(rt: HostRuntime) -> ExitCode {
     let status = match words(&rt) {
-        Ok(words) => run_words(rt, &words),
+        Ok(words) => run_words(&rt, &rt, &words),
         Err(error) if error.kind() == ErrorKind::OutOfMemory => {
             no_memory(&mut RealSink::new(rt.stderr()))
         }
         // Words that can't be read are no command.
-        Err(_) => run_words(rt, &[]),
+        Err(_) => run_words(&rt, &rt, &[]),
     };
     ExitCode::from(status)
 }

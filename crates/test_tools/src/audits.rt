@@ -4,6 +4,8 @@ use crate::runs::{Program, ROOM, show_run};
 use crate::stop::Stop;
 use net_io::MemFiles;
 use std::alloc::Global;
+use std::sync::Wait;
+use std::thread::Threads;
 
 // The second entry is dead by the first one, and the last one redundant, since the end of a list denies.
 const LISTS: &[u8] = b"hostname R1
@@ -27,14 +29,14 @@ fn network(alloc: Global, first: &[u8]) -> Result<MemFiles, Stop> {
     Ok(files)
 }
 
-pub(crate) fn show(rt: &HostRuntime) -> Result<(), Stop> {
-    show_words(rt)?;
-    show_texts(rt)?;
-    show_rooms(rt)?;
-    show_faults(rt)
+pub(crate) fn show<R: Threads + Wait + Sync>(rt: &HostRuntime, threads: &R) -> Result<(), Stop> {
+    show_words(rt, threads)?;
+    show_texts(rt, threads)?;
+    show_rooms(rt, threads)?;
+    show_faults(rt, threads)
 }
 
-fn show_words(rt: &HostRuntime) -> Result<(), Stop> {
+fn show_words<R: Threads + Wait + Sync>(rt: &HostRuntime, threads: &R) -> Result<(), Stop> {
     println!(rt; "== words of an audit")?;
     let cases: [&[&str]; 6] = [
         &[],
@@ -46,13 +48,13 @@ fn show_words(rt: &HostRuntime) -> Result<(), Stop> {
     ];
     let mut files = network(rt.alloc(), LISTS)?;
     for words in cases {
-        show_run(rt, Program::Rollout, &mut files, words, ROOM)?;
+        show_run(rt, threads, Program::Rollout, &mut files, words, ROOM)?;
     }
     Ok(())
 }
 
 // Findings, none, a command that isn't covered, and no hostname.
-fn show_texts(rt: &HostRuntime) -> Result<(), Stop> {
+fn show_texts<R: Threads + Wait + Sync>(rt: &HostRuntime, threads: &R) -> Result<(), Stop> {
     println!(rt; "== texts that are audited")?;
     let cases: [&[u8]; 4] = [
         LISTS,
@@ -62,35 +64,35 @@ fn show_texts(rt: &HostRuntime) -> Result<(), Stop> {
     ];
     for first in cases {
         let mut files = network(rt.alloc(), first)?;
-        show_run(rt, Program::Rollout, &mut files, &AUDIT, ROOM)?;
+        show_run(rt, threads, Program::Rollout, &mut files, &AUDIT, ROOM)?;
     }
     println!(rt; "== a byte at each read")?;
     let mut files = network(rt.alloc(), b"hostname R1\n")?;
     files.at_most(1);
-    show_run(rt, Program::Rollout, &mut files, &AUDIT, ROOM)?;
+    show_run(rt, threads, Program::Rollout, &mut files, &AUDIT, ROOM)?;
     println!(rt; "== a file of 16777217 bytes")?;
     let long = vec![in rt.alloc(); b'!'; 16_777_217]?;
     let mut files = network(rt.alloc(), &long)?;
-    show_run(rt, Program::Rollout, &mut files, &AUDIT, ROOM)
+    show_run(rt, threads, Program::Rollout, &mut files, &AUDIT, ROOM)
 }
 
 // The text of the clean folder has 44 bytes.
-fn show_rooms(rt: &HostRuntime) -> Result<(), Stop> {
+fn show_rooms<R: Threads + Wait + Sync>(rt: &HostRuntime, threads: &R) -> Result<(), Stop> {
     println!(rt; "== an output with little room")?;
     let mut files = network(rt.alloc(), b"hostname R1\n")?;
     for room in [0, 10, 43, 44] {
-        show_run(rt, Program::Rollout, &mut files, &AUDIT, room)?;
+        show_run(rt, threads, Program::Rollout, &mut files, &AUDIT, room)?;
     }
     Ok(())
 }
 
 // The calls are a listing, and two reads of each file.
-fn show_faults(rt: &HostRuntime) -> Result<(), Stop> {
+fn show_faults<R: Threads + Wait + Sync>(rt: &HostRuntime, threads: &R) -> Result<(), Stop> {
     println!(rt; "== a call on the files fails")?;
     for call in 0..6 {
         let mut files = network(rt.alloc(), b"hostname R1\n")?;
         files.fail_at(call);
-        show_run(rt, Program::Rollout, &mut files, &AUDIT, ROOM)?;
+        show_run(rt, threads, Program::Rollout, &mut files, &AUDIT, ROOM)?;
     }
     Ok(())
 }

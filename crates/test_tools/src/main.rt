@@ -4,20 +4,26 @@
 #![tactic(auto)]
 
 mod audits;
+mod edits;
+mod rollouts;
 mod runs;
 mod stop;
 mod views;
 
 use crate::stop::Stop;
 use std::io;
+use std::sync::Wait;
+use std::thread::Threads;
 
-fn show_all(rt: &HostRuntime) -> Result<(), Stop> {
-    audits::show(rt)?;
-    views::show(rt)
+fn show_all<R: Threads + Wait + Sync>(rt: &HostRuntime, threads: &R) -> Result<(), Stop> {
+    audits::show(rt, threads)?;
+    edits::show(rt, threads)?;
+    rollouts::show(rt, threads)?;
+    views::show(rt, threads)
 }
 
 fn main(rt: HostRuntime) -> io::Result<()> {
-    match show_all(&rt) {
+    match show_all(&rt, &rt) {
         Ok(()) => Ok(()),
         Err(Stop::NoMemory) => println!(rt; "no memory"),
         Err(Stop::Output { error }) => Err(error),

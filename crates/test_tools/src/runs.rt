@@ -5,6 +5,9 @@ use net_io::{MemFiles, MemSink};
 use rollout_core::tool;
 use std::alloc::{AllocError, Global};
 use std::io::Write;
+use std::sync::Wait;
+use std::thread::Threads;
+use steal_pool::OpenGate;
 use view_core::view_run;
 
 /// Which program is run.
@@ -34,8 +37,9 @@ pub(crate) struct Finished {
 }
 
 /// Runs the program with these words where the output has so much room.
-pub(crate) fn ran(
+pub(crate) fn ran<R: Threads + Wait + Sync>(
     alloc: Global,
+    threads: &R,
     program: Program,
     files: &mut MemFiles,
     words: &[&str],
@@ -45,21 +49,22 @@ pub(crate) fn ran(
     let mut out = MemSink::new(alloc, room)?;
     let mut err = MemSink::new(alloc, 1000)?;
     let status = match program {
-        Program::Rollout => tool(alloc, &words, files, &mut out, &mut err),
+        Program::Rollout => tool(threads, alloc, &words, files, &mut out, &mut err, &OpenGate),
         Program::View => view_run(alloc, &words, files, &mut out, &mut err),
     };
     Ok(Finished { status, out, err })
 }
 
 /// Runs it and shows the words, the status, and what was written.
-pub(crate) fn show_run(
+pub(crate) fn show_run<R: Threads + Wait + Sync>(
     rt: &HostRuntime,
+    threads: &R,
     program: Program,
     files: &mut MemFiles,
     words: &[&str],
     room: usize,
 ) -> Result<(), Stop> {
-    let ran = ran(rt.alloc(), program, files, words, room)?;
+    let ran = ran(rt.alloc(), threads, program, files, words, room)?;
     println!(rt; "{words:?}: status {}", ran.status)?;
     show_lines(rt, ran.out.taken())?;
     show_lines(rt, ran.err.taken())

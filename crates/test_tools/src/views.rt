@@ -4,6 +4,8 @@ use crate::runs::{Program, ROOM, ran, show_run};
 use crate::stop::Stop;
 use net_io::MemFiles;
 use std::alloc::Global;
+use std::sync::Wait;
+use std::thread::Threads;
 
 const REPORT: &[u8] = b"ingress R1 Ethernet0 rows 2
 dst 10.0.1.5 src * proto 6 dport 81 sport * flags *
@@ -25,15 +27,15 @@ fn texts(alloc: Global, report: &[u8]) -> Result<MemFiles, Stop> {
     Ok(files)
 }
 
-pub(crate) fn show(rt: &HostRuntime) -> Result<(), Stop> {
-    show_words(rt)?;
-    show_reports(rt)?;
-    show_page(rt)?;
-    show_rooms(rt)?;
-    show_faults(rt)
+pub(crate) fn show<R: Threads + Wait + Sync>(rt: &HostRuntime, threads: &R) -> Result<(), Stop> {
+    show_words(rt, threads)?;
+    show_reports(rt, threads)?;
+    show_page(rt, threads)?;
+    show_rooms(rt, threads)?;
+    show_faults(rt, threads)
 }
 
-fn show_words(rt: &HostRuntime) -> Result<(), Stop> {
+fn show_words<R: Threads + Wait + Sync>(rt: &HostRuntime, threads: &R) -> Result<(), Stop> {
     println!(rt; "== words of a view")?;
     let cases: [&[&str]; 7] = [
         &[],
@@ -46,13 +48,13 @@ fn show_words(rt: &HostRuntime) -> Result<(), Stop> {
     ];
     let mut files = texts(rt.alloc(), REPORT)?;
     for words in cases {
-        show_run(rt, Program::View, &mut files, words, ROOM)?;
+        show_run(rt, threads, Program::View, &mut files, words, ROOM)?;
     }
     Ok(())
 }
 
 // A report, one without a row, and texts that are none: a count that is wrong, a name of two words, no end, nothing.
-fn show_reports(rt: &HostRuntime) -> Result<(), Stop> {
+fn show_reports<R: Threads + Wait + Sync>(rt: &HostRuntime, threads: &R) -> Result<(), Stop> {
     println!(rt; "== reports that are shown")?;
     let cases: [&[u8]; 6] = [
         REPORT,
@@ -64,26 +66,26 @@ fn show_reports(rt: &HostRuntime) -> Result<(), Stop> {
     ];
     for report in cases {
         let mut files = texts(rt.alloc(), report)?;
-        show_run(rt, Program::View, &mut files, &["report"], ROOM)?;
+        show_run(rt, threads, Program::View, &mut files, &["report"], ROOM)?;
     }
     println!(rt; "== a byte at each read")?;
     let mut files = texts(rt.alloc(), REPORT)?;
     files.at_most(1);
-    show_run(rt, Program::View, &mut files, &["report"], ROOM)?;
+    show_run(rt, threads, Program::View, &mut files, &["report"], ROOM)?;
     println!(rt; "== a file of 16777217 bytes")?;
     let long = vec![in rt.alloc(); b'!'; 16_777_217]?;
     let mut files = texts(rt.alloc(), &long)?;
-    show_run(rt, Program::View, &mut files, &["report"], ROOM)
+    show_run(rt, threads, Program::View, &mut files, &["report"], ROOM)
 }
 
 // Of a page its beginning and its end.
-fn show_page(rt: &HostRuntime) -> Result<(), Stop> {
+fn show_page<R: Threads + Wait + Sync>(rt: &HostRuntime, threads: &R) -> Result<(), Stop> {
     let mut files = texts(rt.alloc(), REPORT)?;
     for words in [
         &["--html", "report"][..],
         &["--html", "report", "links"][..],
     ] {
-        let ran = ran(rt.alloc(), Program::View, &mut files, words, ROOM)?;
+        let ran = ran(rt.alloc(), threads, Program::View, &mut files, words, ROOM)?;
         let text = ran.out.taken();
         let begins = text.starts_with(b"<!doctype html>\n");
         let ends = text.ends_with(b"</html>\n");
@@ -93,23 +95,24 @@ fn show_page(rt: &HostRuntime) -> Result<(), Stop> {
     Ok(())
 }
 
-fn show_rooms(rt: &HostRuntime) -> Result<(), Stop> {
+fn show_rooms<R: Threads + Wait + Sync>(rt: &HostRuntime, threads: &R) -> Result<(), Stop> {
     println!(rt; "== an output with little room")?;
     let mut files = texts(rt.alloc(), REPORT)?;
     for room in [0, 36] {
-        show_run(rt, Program::View, &mut files, &["report"], room)?;
+        show_run(rt, threads, Program::View, &mut files, &["report"], room)?;
     }
     Ok(())
 }
 
 // The calls are two reads of each file.
-fn show_faults(rt: &HostRuntime) -> Result<(), Stop> {
+fn show_faults<R: Threads + Wait + Sync>(rt: &HostRuntime, threads: &R) -> Result<(), Stop> {
     println!(rt; "== a call on the files fails")?;
     for call in 0..4 {
         let mut files = texts(rt.alloc(), REPORT)?;
         files.fail_at(call);
         show_run(
             rt,
+            threads,
             Program::View,
             &mut files,
             &["--html", "report", "links"],

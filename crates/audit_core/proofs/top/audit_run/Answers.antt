@@ -1,7 +1,8 @@
 use Rattle.std.proofs.Common.{◌≡◌, Some, map, string_bytes, ap, sym, ◌∙◌}
 use Rattle.std.specs.Option.{option_copied}
 use Rattle.job_core.proofs.EndingLemmas.{ends}
-use Rattle.audit_core.specs.Words.{net_of, usage_text}
+use Rattle.rollout_words.specs.Usage.{usage_text}
+use Rattle.audit_core.specs.Words.{net_of}
 use Rattle.audit_core.specs.Audits.{Does, IsAccepted}
 use Rattle.audit_core.proofs.Endings.{does_net, accepted_may_stop}
 use Rattle.audit_core.proofs.top.audit_run.Goals as goal

@@ -1,0 +1,4 @@
+pub mod Words
+pub mod Edits
+pub mod Job
+pub mod Accepted

@@ -1,0 +1,42 @@
+//! The review of edits as one call.
+
+ghost use Rattle.std.specs.Prelude.{◌≡◌, None, map, string_bytes};
+ghost use Rattle.job_core.specs.Endings.{Ends};
+ghost use Rattle.rollout_words.specs.Usage.{usage_text};
+ghost use Rattle.edits_core.specs.Accepted.{IsAccepted};
+ghost use Rattle.edits_core.specs.Job.{Does};
+ghost use Rattle.edits_core.specs.Words.{paths_of};
+
+use crate::inputs::edit_in_folder;
+use crate::words::asked_in;
+use job_core::{finish, refuse};
+use net_io::{Files, Sink};
+use rollout_words::USAGE;
+use std::alloc::Global;
+
+/// Makes the edits of a file in the network that the words name, writes how many rows the report has after each of them and the
+/// report on the network after all of them, and answers the status: 1 where that report has a row, else 0; and else as every
+/// program of the house.
+pub fn edits_run<F: Files, O: Sink, E: Sink>(
+    alloc: Global,
+    words: &[String],
+    files: &mut F,
+    out: &mut O,
+    err: &mut E,
+) -> u8
+    // The words alone decide whether they are within the usage.
+    ensures usage { result ≡ 2 → paths_of (map string_bytes words.now) ≡ None }
+    ensures refused { paths_of (map string_bytes words.now) ≡ None → result ≡ 2 }
+
+    // The run ends as one of the review that the words ask for.
+    ensures ends { Ends (Does (map string_bytes words.now)) (IsAccepted (map string_bytes words.now)) usage_text result
+        (record { told = F.told files.old; faults_before = F.faults files.old; faults_now = F.faults files.new })
+        (record { before = O.taken out.old; now = O.taken out.new; faults_before = O.faults out.old; faults_now = O.faults out.new })
+        (record { before = E.taken err.old; now = E.taken err.new; faults_before = E.faults err.old; faults_now = E.faults err.new }) }
+{
+    let Some(asked) = asked_in(words) else {
+        return refuse(USAGE, err);
+    };
+    let done = edit_in_folder(alloc, files, &asked);
+    finish(alloc, done, out, err)
+}

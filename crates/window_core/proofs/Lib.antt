@@ -1,0 +1,4 @@
+pub mod QuestionCount
+pub mod SecondReading
+pub mod ChangeLemmas
+pub mod Accepted

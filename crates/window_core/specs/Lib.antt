@@ -1,0 +1,6 @@
+pub mod Words
+pub mod Changes
+pub mod Window
+pub mod RolloutText
+pub mod Job
+pub mod Accepted

@@ -1,0 +1,55 @@
+//! The rollout as one call.
+
+ghost use Rattle.std.specs.Prelude.{◌≡◌, None, map, string_bytes};
+ghost use Rattle.job_core.specs.Endings.{Ends};
+ghost use Rattle.rollout_words.specs.Usage.{usage_text};
+ghost use Rattle.window_core.specs.Accepted.{IsAccepted};
+ghost use Rattle.window_core.specs.Job.{Does};
+ghost use Rattle.window_core.specs.Words.{paths_of};
+
+use crate::asking::roll;
+use crate::words::asked_in;
+use job_core::{finish, refuse};
+use net_io::{Files, Sink};
+use rollout_words::USAGE;
+use std::alloc::Global;
+use std::sync::Wait;
+use std::thread::Threads;
+use steal_pool::{Gate, Workers};
+
+// How many workers answer.
+const WORKERS: u32 = 4;
+
+/// Asks the questions of each network of the change window that the words name, and answers the status: 1 where one fails, else 0;
+/// and else as every program of the house. Four workers answer, each of which passes the gate before it works on a region; for
+/// every interleaving the bytes are the same.
+pub fn rollout_run<F: Files, O: Sink, E: Sink, G: Gate + Sync, R: Threads + Wait + Sync>(
+    rt: &R,
+    alloc: Global,
+    words: &[String],
+    files: &mut F,
+    out: &mut O,
+    err: &mut E,
+    gate: &G,
+) -> u8
+    // The words alone decide whether they are within the usage.
+    ensures usage { result ≡ 2 → paths_of (map string_bytes words.now) ≡ None }
+    ensures refused { paths_of (map string_bytes words.now) ≡ None → result ≡ 2 }
+
+    // The run ends as one of the rollout that the words ask for.
+    ensures ends { Ends (Does (map string_bytes words.now)) (IsAccepted (map string_bytes words.now)) usage_text result
+        (record { told = F.told files.old; faults_before = F.faults files.old; faults_now = F.faults files.new })
+        (record { before = O.taken out.old; now = O.taken out.new; faults_before = O.faults out.old; faults_now = O.faults out.new })
+        (record { before = E.taken err.old; now = E.taken err.new; faults_before = E.faults err.old; faults_now = E.faults err.new }) }
+{
+    let Some(asked) = asked_in(words) else {
+        return refuse(USAGE, err);
+    };
+    let by = Workers {
+        rt,
+        gate,
+        count: WORKERS,
+    };
+    let done = roll(&by, alloc, files, &asked);
+    finish(alloc, done, out, err)
+}

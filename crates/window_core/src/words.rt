@@ -1,0 +1,45 @@
+//! The words of the command line.
+
+ghost use Rattle.std.specs.Prelude.{◌≡◌, map, option_map, string_bytes};
+ghost use Rattle.window_core.specs.Words.{are_operands, if_operands, paths, paths_of};
+ghost use Rattle.std.specs.Str.{bytes_eq};
+
+use rollout_words::is_operand;
+
+/// Where the network, its link table, the questions and the change window are.
+#[derive(Clone, Copy)]
+pub struct Asked<'a> {
+    pub net: &'a str,
+    pub links: &'a str,
+    pub questions: &'a str,
+    pub steps: &'a str,
+}
+
+/// What the words ask for; nothing where they are outside the usage.
+pub(crate) fn asked_in(words: &[String]) -> Option<Asked<'_>>
+    ensures { option_map paths result ≡ paths_of (map string_bytes words.now) }
+{
+    let [command, net, links, questions, steps] = words else {
+        return None;
+    };
+    let asked = Asked {
+        net: net.as_str(),
+        links: links.as_str(),
+        questions: questions.as_str(),
+        steps: steps.as_str(),
+    };
+    if command.as_bytes() == b"rollout".as_slice() && are_operands(&asked) {
+        return Some(asked);
+    }
+    None
+}
+
+// Whether each of them may be an operand.
+fn are_operands(asked: &Asked) -> bool
+    ensures { result ≡ are_operands (paths asked.now) }
+{
+    is_operand(asked.net.as_bytes())
+        && is_operand(asked.links.as_bytes())
+        && is_operand(asked.questions.as_bytes())
+        && is_operand(asked.steps.as_bytes())
+}
