@@ -51,7 +51,11 @@ command -v zsh >/dev/null 2>&1 || echo "zsh isn't there: its completions are not
 campus=examples/campus
 offers "ask compare gen read trace" review ""
 offers "compare" ./review c
-offers "audit" rollout ""
+offers "audit edits rollout" rollout ""
+offers "examples/edits/edits" rollout edits examples/list-entry/old examples/list-entry/links examples/edits/ed
+offers "" rollout edits a b c d
+offers "examples/rollout/steps examples/rollout/steps-leak examples/rollout/steps-loop" rollout rollout examples/rollout/net examples/rollout/links examples/rollout/questions examples/rollout/st
+offers "" rollout rollout a b c d e
 offers "$campus/links" review compare $campus/old $campus/new $campus/li
 offers "$campus/links" review compare --ttl 9 $campus/old $campus/new $campus/links $campus/li
 offers "" review compare $campus/old $campus/new $campus/links $campus/links $campus/li

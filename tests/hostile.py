@@ -32,9 +32,9 @@ def spoiled(text):
         yield f"cut at {at}", text[:at]
         for byte in (0, 255, 32, 10):
             if text[at] != byte:
-                yield f"byte {at} is {byte}", text[:at] + bytes([byte]) + text[at + 1 :]
+                yield f"byte {at} is {byte}", text[:at] + bytes([byte]) + text[at + 1:]
     for word in re.finditer(rb"\S+", text):
-        yield f"word at {word.start()} doubled", text[: word.end()] + b" " + word.group() + text[word.end() :]
+        yield f"word at {word.start()} doubled", text[:word.end()] + b" " + word.group() + text[word.end():]
 
 
 def words_of(example):

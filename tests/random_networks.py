@@ -136,7 +136,8 @@ class Maker:
     def translation(self):
         if self.chance(0.5):
             return "ip nat inside source static %s %s" % (self.address(), self.pick("203.0.113.5", "203.0.113.6", self.address()))
-        return "ip nat inside source static %s %s %d %s %d" % (self.pick("tcp", "udp"), self.address(), self.pick(80, 443), self.pick("203.0.113.5", self.address()), self.pick(80, 8080))
+        return "ip nat inside source static %s %s %d %s %d" % (
+            self.pick("tcp", "udp"), self.address(), self.pick(80, 443), self.pick("203.0.113.5", self.address()), self.pick(80, 8080))
 
     def outer_translation(self):
         """A rule for a host outside. Mostly its addresses are those of the last such rule, the other way round: so two routers

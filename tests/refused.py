@@ -3,7 +3,7 @@
 
     refused.py PROGRAM [--rows NAME,..] [--every N] [--jobs J] [--seconds S]
 
-Each row is a command over files of examples/ or of bench/networks.py. It is run once with all memory; then for each number N, from 1 on
+Each row is a command over files of examples/ or of bench/networks.py: of `review`, or of `rollout` where PROGRAM's name begins so. It is run once with all memory; then for each number N, from 1 on
 until a run makes fewer requests, once with the Nth request refused alone and once with all from the Nth on refused. A thread that
 can't be started is a request that is refused, too. With --every N each Nth number is tried alone. No run may end in another way, take
 longer than S seconds (60), or end by a signal. The last line is 'N passed, M failed'.
@@ -18,7 +18,8 @@ import sys
 import tempfile
 
 TESTS = os.path.dirname(os.path.abspath(__file__))
-EXAMPLES = os.path.join(TESTS, "..", "examples")
+TOP = os.path.dirname(TESTS)
+EXAMPLES = os.path.join(TOP, "examples")
 
 
 def compare(example, *more):
@@ -53,13 +54,24 @@ def rows(scratch):
     return found
 
 
+def rollout_rows():
+    """The same of the program `rollout`."""
+    window = f"{EXAMPLES}/rollout"
+    found = {
+        f"rollout{order}": ["rollout", f"{window}/net", f"{window}/links", f"{window}/questions", f"{window}/steps{order}"] for order in ("", "-leak")
+    }
+    found["edits"] = ["edits", f"{EXAMPLES}/list-entry/old", f"{EXAMPLES}/list-entry/links", f"{EXAMPLES}/edits/edits"]
+    found["audit"] = ["audit", f"{EXAMPLES}/audit/net"]
+    return found
+
+
 def resolved(word):
-    return os.path.join(TESTS, "..", word) if word.startswith("examples/") else word
+    return os.path.join(TOP, word) if word.startswith("examples/") else word
 
 
 def made(scratch):
     """What the rows need besides the examples, and the library."""
-    networks = os.path.join(TESTS, "..", "bench", "networks.py")
+    networks = os.path.join(TOP, "bench", "networks.py")
     subprocess.run([sys.executable, networks, "fabric", scratch, "2", "16"], check=True)
     os.mkdir(f"{scratch}/refused")
     with open(f"{scratch}/refused/R1.cfg", "w") as file:
@@ -86,7 +98,8 @@ class Runs:
         if rest:
             env["REFUSED_ALL"] = "1"
         try:
-            it = subprocess.run([self.program, *words], env=env, stdin=subprocess.DEVNULL, capture_output=True, timeout=self.seconds)
+            # (paths of steps are read from the top)
+            it = subprocess.run([self.program, *words], cwd=TOP, env=env, stdin=subprocess.DEVNULL, capture_output=True, timeout=self.seconds)
             ended = (it.returncode, it.stdout, it.stderr)
         except subprocess.TimeoutExpired:
             ended = ("no end", b"", b"")
@@ -145,7 +158,8 @@ def main():
     with tempfile.TemporaryDirectory(prefix="refused") as scratch:
         start = (program, made(scratch), scratch, seconds)
         with multiprocessing.Pool(jobs) as pool:
-            for name, row in rows(scratch).items():
+            of_rollout = os.path.basename(program).startswith("rollout")
+            for name, row in (rollout_rows() if of_rollout else rows(scratch)).items():
                 if only and name not in only:
                     continue
                 right, wrong, is_row = try_row(pool, jobs, every, start, name, row)

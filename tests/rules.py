@@ -1,15 +1,17 @@
 #!/usr/bin/env python3
-"""The comparison of two networks, the trace of a packet, the answers to questions and the audit of access lists, once more from the
-rules of docs/DEFINITIONS.md alone: a second opinion for tests.
+"""The comparison of two networks, the trace of a packet, the answers to questions, the audit of access lists, the edits of a network
+and the check of a rollout, once more from the rules of docs/DEFINITIONS.md alone: a second opinion for tests.
 
     rules.py OLD NEW LINKS [NEWLINKS] [--ttl T]
     rules.py trace NET LINKS DEVICE INTERFACE HEADER [--ttl T]
     rules.py ask NET LINKS QUESTIONS [--ttl T]
     rules.py audit NET
+    rules.py edits NET LINKS EDITS
+    rules.py rollout NET LINKS QUESTIONS STEPS
 
-It prints what the program must print for `compare` with these words, for `trace`, `ask` or `audit`. It shares no code with the
-program, takes networks and questions as accepted (it refuses nothing), and is slow: a set of headers is halved at the first bit
-that a rule asks for, until all its headers are treated alike.
+It prints what the program must print for `compare` with these words, for `trace`, `ask`, `audit`, `edits` or `rollout`. It shares no
+code with the program, takes networks, questions, edits and steps as accepted (it refuses nothing), and is slow: a set of headers is
+halved at the first bit that a rule asks for, until all its headers are treated alike.
 """
 import os
 import sys
@@ -770,9 +772,20 @@ def load(folder):
     return [Device(open(os.path.join(folder, name)).read()) for name in names]
 
 
+def lines_of(file):
+    """The words of each line of a file that isn't empty or a comment."""
+    words = [line.split() for line in open(file).read().split("\n")]
+    return [line for line in words if line and not line[0].startswith("!")]
+
+
 def report(old_folder, new_folder, links, new_links=None, ttl=255):
     old = Network(load(old_folder), open(links).read())
     new = Network(load(new_folder), open(new_links or links).read())
+    return report_text(old, new, ttl)[0]
+
+
+def report_text(old, new, ttl):
+    """The report on two networks, and how many rows it has."""
     lines, affected = [], 0
     for place in old.ingress + [place for place in new.ingress if place not in old.ingress]:
         rows = canonical_rows(pieces(old, new, place, ttl))
@@ -783,7 +796,7 @@ def report(old_folder, new_folder, links, new_links=None, ttl=255):
             lines.append(header_text(headers))
             lines.append("old " + label_text(labels[0]))
             lines.append("new " + label_text(labels[1]))
-    return "\n".join(lines + ["affected %d" % affected]) + "\n"
+    return "\n".join(lines + ["affected %d" % affected]) + "\n", affected
 
 
 def header_text(headers):
@@ -859,17 +872,13 @@ def least_breaking(network, words, ttl):
 def answers(folder, links, questions, ttl=255):
     network = Network(load(folder), open(links).read())
     lines, failed = [], 0
-    for line in open(questions).read().split("\n"):
-        words = line.split()
-        if not words or words[0].startswith("!"):
-            continue
+    for words in lines_of(questions):
         least = least_breaking(network, words, ttl)
         if least is None:
             lines.append("%d holds" % (len(lines) + 1))
         else:
-            header = Headers(2**PLACES - 1, least)
             failed += 1
-            lines.append("%d fails %s" % (len(lines) + 1, header_text(header)))
+            lines.append("%d fails %s" % (len(lines) + 1, header_text(Headers(2**PLACES - 1, least))))
     return "\n".join(lines + ["failed %d" % failed]) + "\n"
 
 
@@ -935,6 +944,54 @@ def audit(folder):
     return "\n".join(lines + ["findings %d" % count]) + "\n"
 
 
+# ---- networks that change
+
+
+def rollout(folder, links, questions, steps):
+    """The first network of a change window that doesn't meet the questions, which are asked of each of them."""
+    devices, table, asked = load(folder), open(links).read(), lines_of(questions)
+    changes = [Device(open(words[1]).read()) for words in lines_of(steps)]
+    text = "networks %d\n" % (len(changes) + 1)
+    for step, change in enumerate([None] + changes):
+        devices = [change if change is not None and device.name == change.name else device for device in devices]
+        network = Network(devices, table)
+        for number, words in enumerate(asked, 1):
+            least = least_breaking(network, words, 255)
+            if least is not None:
+                return text + "step %d question %d fails %s\n" % (step, number, header_text(Headers(2**PLACES - 1, least)))
+    return text + "rollout holds\n"
+
+
+def edit(device, words):
+    """One edit of a device: an entry into a list or out of it, a route behind the others, or the first equal one out."""
+    kind, rest = words[0], words[2:]
+    if kind == "entry":
+        device.read_entry(device.lists[rest[0]], rest[1:])
+    elif kind == "no-entry":
+        del device.lists[rest[0]][1][int(rest[1])]
+    elif kind == "route":
+        device.read_route(rest)
+    else:
+        device.read_route(rest)
+        device.routes.remove(device.routes.pop())
+    device.install()
+
+
+def edits(folder, links, file):
+    """How many rows the comparison with the edited network has after each edit, and the last report."""
+    table = open(links).read()
+    old = Network(load(folder), table)
+    devices = load(folder)
+    lines, (text, affected) = [], report_text(old, old, 255)
+    for number, line in enumerate(open(file).read().split("\n"), 1):
+        words = line.split()
+        if words and not words[0].startswith("!"):
+            edit(next(device for device in devices if device.name == words[1]), words)
+            text, affected = report_text(old, Network(devices, table), 255)
+            lines.append("line %d affected %d\n" % (number, affected))
+    return "".join(lines) + text
+
+
 def main():
     words, ttl = sys.argv[1:], 255
     if len(words) >= 2 and words[-2] == "--ttl":
@@ -945,6 +1002,10 @@ def main():
         sys.stdout.write(trace(*words[1:], ttl=ttl))
     elif words[:1] == ["ask"]:
         sys.stdout.write(answers(*words[1:], ttl=ttl))
+    elif words[:1] == ["edits"]:
+        sys.stdout.write(edits(*words[1:]))
+    elif words[:1] == ["rollout"]:
+        sys.stdout.write(rollout(*words[1:]))
     else:
         sys.stdout.write(report(*words, ttl=ttl))
 
