@@ -5,5 +5,6 @@ cd "$(dirname "$0")/../crates/bench_cubes" || exit 1
 rt run >/dev/null 2>&1
 for words in "rows 10000" "rows 100000" lists "routes 10000" "routes 100000"; do
     # Each line has its words apart.
+    # shellcheck disable=SC2086
     out/bench_cubes $words
 done

@@ -260,10 +260,15 @@ def hops(folder, routes, count):
     lines = []
     for k in range(1 + (count - 1) // 1000):
         lines += ["interface Ethernet%d" % k, " ip address 10.%d.0.1 255.255.0.0" % k]
-    by = lambda i, j: "ip route %s 255.255.255.240 10.%d.%d.%d" % (dotted((20 << 24) + 16 * i), j // 1000, j % 1000 // 100, 2 + j % 100)
+
+    def by(i, j):
+        return "ip route %s 255.255.255.240 10.%d.%d.%d" % (dotted((20 << 24) + 16 * i), j // 1000, j % 1000 // 100, 2 + j % 100)
+
     for version in ("old", "new"):
-        hop = lambda i: count - 1 if version == "new" and i == routes // 2 else i % count
-        write(folder, version, {"R1": lines + [by(i, hop(i)) for i in range(routes)]})
+        hops_of = [i % count for i in range(routes)]
+        if version == "new":
+            hops_of[routes // 2] = count - 1
+        write(folder, version, {"R1": lines + [by(i, j) for i, j in enumerate(hops_of)]})
     write_links(folder, ["ingress R1 Ethernet0", "ingress R1 Ethernet1"])
 
 
