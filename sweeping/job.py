@@ -83,16 +83,27 @@ def write_result(plan, identity, output):
     return status
 
 
+def do_job(plan, identity, folder):
+    """Does a job as a process of its own, so that one that dies takes no other with it."""
+    path = result_path(folder, identity)
+    with open(path + ".part", "wb") as output, open(path + ".err", "wb") as errors:
+        running = subprocess.Popen([sys.executable, "-S", plan.path("job.py"), identity], stdout=output, stderr=errors)
+        try:
+            running.wait()
+        except BaseException:
+            # It takes its program and its files with it.
+            running.terminate()
+            running.wait()
+            raise
+    # A result is there whole or not at all, whenever the job is ended.
+    os.replace(path + ".part", path)
+
+
 def do_share(plan, first, step, folder):
-    """Does some of the jobs one by one, each as a process of its own, so that one that dies takes no other with it."""
+    """Does some of the jobs one by one."""
     for identity in plan.jobs()[first::step]:
-        if status_of(folder, plan.digest, identity) in (0, 1):
-            continue
-        path = result_path(folder, identity)
-        with open(path + ".part", "wb") as output, open(path + ".err", "wb") as errors:
-            subprocess.run([sys.executable, "-S", os.path.join(KIT, "job.py"), identity], stdout=output, stderr=errors)
-        # A result is there whole or not at all, whenever the job is ended.
-        os.replace(path + ".part", path)
+        if status_of(folder, plan.digest, identity) not in (0, 1):
+            do_job(plan, identity, folder)
 
 
 def main():

@@ -5,6 +5,7 @@ import shutil
 import signal
 import subprocess
 import sys
+import time
 
 from plan import kit_name, result_path, status_of
 
@@ -43,12 +44,25 @@ def keep_whole_results(folder, plan):
     os.replace(log + ".new", log)
 
 
-def by_parallel(folder, plan, read):
-    """Runs the jobs by GNU parallel: its results and its job log stand in the folder. How it ends doesn't count, the results do."""
+def log_whole(folder, plan, identities, began, by):
+    """Writes to the log that these results are whole, which parallel didn't run the jobs for, and by what: it then leaves them out."""
+    numbers, log = {identity: number for number, identity in enumerate(plan.jobs(), 1)}, os.path.join(folder, "joblog")
+    with open(log, "a", encoding="latin-1") as stream:
+        if not os.path.getsize(log):
+            stream.write("Seq\tHost\tStarttime\tJobRuntime\tSend\tReceive\tExitval\tSignal\tCommand\n")
+        stream.writelines("%d\t:\t%.3f\t%.3f\t0\t0\t0\t0\t%s %s\n" % (numbers[identity], began, time.time() - began, by, identity)
+                          for identity in identities)
+
+
+def need_parallel():
     need("parallel", "parallel")
     told = subprocess.run(["parallel", "--version"], stdout=subprocess.PIPE, stderr=subprocess.DEVNULL).stdout
     if not told.startswith(b"GNU parallel"):
         raise Missing("the program parallel on the PATH isn't GNU parallel (Debian: apt-get install parallel)")
+
+
+def by_parallel(folder, plan, read):
+    """Runs the jobs by GNU parallel: its results and its job log stand in the folder. How it ends doesn't count, the results do."""
     keep_whole_results(folder, plan)
     words = ["parallel", "--will-cite", "--joblog", "joblog", "--resume", "--results", "results/{}"]
     words += ["--bar"] if sys.stderr.isatty() else []

@@ -13,6 +13,7 @@ import traceback
 
 import failures
 import runners
+import windows
 from gather import gather
 from plan import Plan, kit_name
 from words import read_words
@@ -33,16 +34,21 @@ class Stop(Exception):
 
 
 class Program:
-    """`review` or `view`: how it is called here, and the file that is copied for the jobs."""
+    """`review`, `view` or `rollout`: how it is called here, and the file that is copied for the jobs."""
 
     def __init__(self, name):
         self.name = name
         given = os.environ.get("DIQENYU_" + name.upper())
-        given = given and os.path.abspath(given)
+        self.given = given = given and os.path.abspath(given)
         self.file = given or os.path.join(TOP, "crates", name + "_cli", "out", name + "_cli")
         self.command = [os.path.join(TOP, "launch"), "--run", self.file] if given else [os.path.join(TOP, name)]
         if given and not (os.path.isfile(given) and os.access(given, os.X_OK)):
             raise Stop(70, "%s: no program %s\n" % (name, given))
+
+    def is_built(self):
+        """Whether it is there already, built of today's sources."""
+        return bool(self.given) or subprocess.run([os.path.join(TOP, "launch"), "--built", self.name], stdin=subprocess.DEVNULL,
+                                                  stdout=subprocess.DEVNULL, stderr=subprocess.DEVNULL).returncode == 0
 
     def build(self):
         """Builds the program of the sources, where that isn't done, before any job starts: without words it says its usage alone."""
@@ -115,7 +121,7 @@ def digest_of(read, inputs, programs):
     """A number that tells this sweep from any other: its words, its inputs, its programs."""
     digest = hashlib.sha256(json.dumps([read.words, options_of(read), bool(read.pairs), read.by_ingress]).encode("ascii"))
     contents = list(inputs.items()) + [(program.name, read_file(program.file)) for program in programs]
-    contents += [(script, read_file(os.path.join(HERE, script))) for script in SCRIPTS]
+    contents += [(script, read_file(os.path.join(HERE, script))) for script in SCRIPTS + ("windows.py",)]
     for name, text in contents:
         digest.update(b"%s %d\n" % (os.fsencode(name), len(text)))
         digest.update(text)
@@ -176,7 +182,7 @@ def write_plan(kit, read, digest, inputs):
 def judge(read, programs, kit):
     """Runs the command on the networks as they stand: what is refused is told as the program tells it, and nothing else is run. The
     answer is kept in the kit, to compare with. For parts of the ingresses it is enough that all is accepted: a TTL of 1 tells that soon."""
-    review, view = programs[0], programs[-1]
+    review, *others = programs
     output = os.path.join(kit, "output")
     if read.by_ingress:
         review.run(read.words + ["--ttl", "1"], output)
@@ -185,7 +191,7 @@ def judge(read, programs, kit):
     if read.words[0] == "ask":
         os.replace(output, os.path.join(kit, "without"))
     elif not read.by_ingress:
-        view.run([output], os.path.join(kit, "without"))
+        others[0].run([output], os.path.join(kit, "without"))
 
 
 def make_kit(read, programs, digest, inputs, folder):
@@ -227,11 +233,19 @@ def hold(folder):
     return lock
 
 
-def prepare(read):
-    """Finds the folder of this sweep, or makes it; gives the folder, the plan and what holds the folder."""
+def find_programs(read):
+    """The programs that the sweep runs, built, `review` before the others. It can do without `rollout`, which is not built for it; but
+    where it is there, it is one of the sweep's, whatever runs the jobs, so that each way goes on with what another one has done."""
     programs = [Program("review")] + ([Program("view")] if read.words[0] == "compare" and not read.by_ingress else [])
     for program in programs:
         program.build()
+    rollout = Program("rollout")
+    return programs + ([rollout] if read.words[0] == "ask" and rollout.is_built() else [])
+
+
+def prepare(read):
+    """Finds the folder of this sweep, or makes it; gives the folder, the plan and what holds the folder."""
+    programs = find_programs(read)
     inputs = read_inputs(read.words)
     if inputs is None:
         programs[0].run(read.words, os.devnull)
@@ -277,6 +291,9 @@ def sweep(words):
     if read.slurm:
         status = runners.by_slurm(folder, plan)
     else:
+        runners.need_parallel()
+        if windows.can_tell(read, plan):
+            windows.settle(folder, plan)
         runners.by_parallel(folder, plan, read)
         status = gather(folder, plan)
     if read.folder is None and status in (0, 1):

@@ -14,6 +14,7 @@ options:
   --sshlogin LOGIN   run jobs on this machine, as GNU parallel says; once for each machine
   --copy             copy what the jobs read to these machines, which don't see FOLDER
   --slurm            one array job by sbatch, and a job that gathers behind it
+  --jobs-only        a job for each failure, also where rollout tells of many at once (ask)
   --workers N, --ttl T    of each run, as for review
 """
 
@@ -48,7 +49,7 @@ def read_words(words):
     """The command and its options, as they are checked."""
     parser = Parser(add_help=False, allow_abbrev=False)
     parser.add_argument("words", nargs="*")
-    for flag in ("--pairs", "--copy", "--slurm"):
+    for flag in ("--pairs", "--copy", "--slurm", "--jobs-only"):
         parser.add_argument(flag, action=Once, nargs=0, default=False)
     for option in ("--show", "--folder"):
         parser.add_argument(option, action=Once)

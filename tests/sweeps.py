@@ -1,8 +1,8 @@
 #!/usr/bin/env python3
 """Runs `sweep` as its users do: by GNU parallel, over ssh on the loopback address, and by Slurm or a stand-in for its sbatch.
 
-What can't be tried on this machine is told in a line that begins with `skipped`. DIQENYU_REVIEW and DIQENYU_VIEW name other programs
-than those that `./review` and `./view` build.
+What can't be tried on this machine is told in a line that begins with `skipped`. DIQENYU_REVIEW, DIQENYU_VIEW and DIQENYU_ROLLOUT name
+other programs than those that `./review`, `./view` and `./rollout` build.
 """
 import glob
 import os
@@ -21,6 +21,7 @@ sys.path.insert(0, os.path.join(TOP, "sweeping"))
 sys.dont_write_bytecode = True
 
 import failures  # noqa: E402
+import windows  # noqa: E402
 
 EXAMPLE = "examples/sweep-branch"
 COMPARE = ["compare", EXAMPLE + "/old", EXAMPLE + "/new", EXAMPLE + "/links"]
@@ -40,6 +41,13 @@ failure device R1 + device R2
 failures 5 differ 0
 """
 SMALL_ANSWER = b"".join(line for line in SMALL_PAIRS.splitlines(True) if b" + " not in line).replace(b"failures 5", b"failures 3")
+
+
+# A sweep to which no window is too dear, whatever else the machine does.
+SETTINGS = "import sys; sys.path.insert(0, 'sweeping'); import sweep, windows; windows.TIMED, windows.MOST_COST = 1, 1e9; sys.exit(sweep.main())"
+ALL_WINDOWS = (sys.executable, "-BS", "-c", SETTINGS)
+# How many random networks are asked in both ways.
+RANDOM_NETWORKS = 6
 
 
 def ask_words(version):
@@ -88,9 +96,9 @@ class Sweeps(unittest.TestCase):
         self.folder = os.path.join(self.scratch, "folder")
         self.environment = dict(os.environ, XDG_CACHE_HOME=os.path.join(self.scratch, "cache"), TMPDIR=self.scratch)
 
-    def sweep(self, *words):
+    def sweep(self, *words, command=("./sweep",)):
         """The status, the output and the error lines."""
-        done = subprocess.run(["./sweep", *words], cwd=TOP, env=self.environment, stdin=subprocess.DEVNULL,
+        done = subprocess.run([*command, *words], cwd=TOP, env=self.environment, stdin=subprocess.DEVNULL,
                               stdout=subprocess.PIPE, stderr=subprocess.PIPE)
         return done.returncode, done.stdout, done.stderr
 
@@ -154,6 +162,131 @@ class ByParallel(Sweeps):
         self.assertEqual(kept, {path: os.stat(path).st_mtime_ns for path in kept})
 
 
+class ByWindows(Sweeps):
+    """Questions that hold without failure, of many failures by one run of `rollout`, and once more by a job for each failure."""
+
+    def setUp(self):
+        self.program = os.environ.get("DIQENYU_ROLLOUT") or built("rollout")
+        if not self.program:
+            self.skipTest("many failures by one run: rollout isn't built")
+        super().setUp()
+
+    def counts(self, folder):
+        """How many results jobs gave, and how many windows."""
+        log = read(folder + "/joblog").splitlines()[1:]
+        return sum(b"job.py " in line for line in log), sum(b"\trollout " in line for line in log)
+
+    def both(self, network, questions="questions", version="old"):
+        """Asks in both ways, which write the same; gives the status, and how many results jobs and windows gave, in the first way."""
+        folders = [tempfile.mkdtemp(dir=self.scratch) for _ in range(2)]
+        words = ["ask"] + [os.path.join(network, name) for name in (version, "links", questions)]
+        told = self.sweep(*words, "--folder", folders[0], command=ALL_WINDOWS)
+        self.assertEqual(told, self.sweep(*words, "--jobs-only", "--folder", folders[1]))
+        if told[0] not in (0, 1):
+            return told[0], 0, 0
+        jobs, held = self.counts(folders[0])
+        self.assertEqual(self.counts(folders[1]), (jobs + held, 0))
+        for path in glob.glob(folders[1] + "/results/*[0-9]"):
+            self.assertEqual(read(path), read(path.replace(folders[1], folders[0])))
+        return told[0], jobs, held
+
+    def make(self, script, *words):
+        subprocess.run([sys.executable, os.path.join(TOP, script), *map(str, words)], check=True, timeout=60)
+
+    def test_random_networks(self):
+        asked = jobs = held = 0
+        for seed in range(1, 60):
+            network = os.path.join(self.scratch, str(seed))
+            self.make("tests/random_networks.py", network, seed)
+            try:
+                self.make("tests/random_windows.py", network, seed)
+            except (subprocess.CalledProcessError, subprocess.TimeoutExpired):
+                # What the second opinion can't judge, or not soon.
+                continue
+            with self.subTest(seed=seed):
+                status, by_jobs, by_windows = self.both(network, "held")
+            asked, jobs, held = asked + (status in (0, 1)), jobs + by_jobs, held + by_windows
+            if asked == RANDOM_NETWORKS:
+                break
+        print("random networks: %d, %d failures by jobs, %d by windows" % (asked, jobs, held), file=sys.stderr)
+        self.assertEqual(asked, RANDOM_NETWORKS)
+        self.assertGreater(held, RANDOM_NETWORKS)
+
+    def test_fabric(self):
+        network = os.path.join(self.scratch, "fabric")
+        self.make("bench/networks.py", "fabric", network, 3, 6)
+        self.make("bench/rollout.py", network, 6, 0)
+        status, jobs, held = self.both(network)
+        print("fabric: %d failures by jobs, %d by windows" % (jobs, held), file=sys.stderr)
+        # Each leaf that fails is missed, and nothing else is.
+        self.assertEqual((status, jobs + held), (1, 27))
+        self.assertLess(jobs, 16)
+
+    def test_fails_between(self):
+        # Where one end of an uplink alone is down, its other end goes on sending to it; the network of the failure has another way.
+        for version in failures.VERSIONS:
+            status, jobs, held = self.both(EXAMPLE, version=version)
+            self.assertEqual((status, jobs + held), (1, 9))
+
+    def test_cannot_fail_and_no_section(self):
+        links = read(os.path.join(TOP, EXAMPLE, "links")).decode() + "p2p CORE1 Ethernet7 DC1 Ethernet8\n"
+        network = os.path.join(self.scratch, "network")
+        shutil.copytree(os.path.join(TOP, EXAMPLE), network)
+        write(network + "/links", links)
+        self.assertEqual(self.both(network)[0], 1)
+        write(network + "/questions", "reach NONE E0 to DC1 Ethernet8\n")
+        self.assertEqual(self.both(network), (3, 0, 0))
+
+    def test_resumed_by_either_way(self):
+        network = os.path.join(self.scratch, "fabric")
+        self.make("bench/networks.py", "fabric", network, 2, 4)
+        self.make("bench/rollout.py", network, 4, 0)
+        words = ["ask"] + [os.path.join(network, name) for name in ("old", "links", "questions")] + ["--folder", self.folder]
+        first = self.sweep(*words, command=ALL_WINDOWS)
+        held = [line.rsplit(" ", 1)[1] for line in read(self.folder + "/joblog").decode().splitlines() if "\trollout " in line]
+        self.assertGreater(len(held), 2)
+        for more in ["--jobs-only"], []:
+            kept = [os.path.join(self.folder, "results", identity) for identity in held[2:]]
+            before = [os.stat(path).st_mtime_ns for path in kept]
+            for identity in held[:2]:
+                os.remove(os.path.join(self.folder, "results", identity))
+            self.assertEqual(self.sweep(*words, *more), first)
+            self.assertEqual([os.stat(path).st_mtime_ns for path in kept], before)
+
+    def test_interrupted(self):
+        once, real = shlex.quote(self.scratch + "/once"), shlex.quote(os.path.abspath(self.program))
+        script = "mkdir %s 2>/dev/null && exec sleep 60\nexec %s \"$@\"\n" % (once, real)
+        self.environment["DIQENYU_ROLLOUT"] = self.stand_in("rollout", script)
+        words = [*ask_words("new"), "--folder", self.folder]
+        running = subprocess.Popen(["./sweep", *words], cwd=TOP, env=self.environment, stdout=subprocess.PIPE, stderr=subprocess.PIPE)
+        self.assertTrue(until(lambda: os.path.exists(self.scratch + "/once")))
+        # The signal goes to the script alone, which ends what it runs.
+        running.terminate()
+        output, errors = running.communicate(timeout=20)
+        self.assertEqual((running.returncode, output), (130, b""), errors)
+        self.assertEqual(glob.glob(self.scratch + "/diqenyu-sweep-*"), [])
+        kept = os.stat(self.folder + "/results/1").st_mtime_ns
+        self.has_answer(EXAMPLE + "/failures-new", *words)
+        self.assertEqual(kept, os.stat(self.folder + "/results/1").st_mtime_ns)
+
+    def test_no_answer_of_rollout(self):
+        expected = read(os.path.join(TOP, EXAMPLE, "failures-new"))
+        for script in "exit 7", "kill -9 $$", "echo networks 2; echo rollout holds", "echo networks 2; exit 1", "echo; exit 1":
+            self.environment["DIQENYU_ROLLOUT"] = self.stand_in("rollout", script + "\n")
+            self.assertEqual(self.sweep(*ask_words("new")), (1, expected, b""))
+
+    def test_what_windows_do_not_tell(self):
+        self.environment["DIQENYU_ROLLOUT"] = self.stand_in("rollout", "touch %s\nexit 7\n" % shlex.quote(self.scratch + "/ran"))
+        failing = write(self.scratch + "/questions", "isolate BRANCH Vlan40 to DC1 Vlan30\n")
+        small = ["ask", "examples/rewired/old", "examples/rewired/links", write(self.scratch + "/small", "noloop R1 Ethernet0\n"), "--pairs"]
+        for words in [*ask_words("new"), "--jobs-only"], [*ask_words("new"), "--ttl", "9"], [*ask_words("new")[:3], failing], \
+                [*ask_words("new"), "--sshlogin", "2/:"], small:
+            self.assertIn(self.sweep(*words)[0], (0, 1), words)
+            self.assertFalse(os.path.exists(self.scratch + "/ran"), words)
+        self.sweep(*ask_words("new"))
+        self.assertTrue(os.path.exists(self.scratch + "/ran"))
+
+
 class NoAnswer(Sweeps):
     """A sweep that has no whole answer writes none."""
 
@@ -210,7 +343,7 @@ class NoAnswer(Sweeps):
     def stand_ins(self, what):
         """The first time that the uplink alone is down, `review` does something else."""
         once, network = shlex.quote(os.path.join(self.scratch, "once")), "$2/BRANCH.cfg"
-        is_down = "grep -A3 'interface %s' " + network + " | grep -q shutdown"
+        is_down = "grep -A4 'interface %s' " + network + " | grep -q shutdown"
         down = is_down % "GigabitEthernet0/0" + " && ! " + is_down % "Vlan40"
         script = 'if [ $# -gt 3 ] && %s && mkdir %s 2>/dev/null; then %s; fi\nexec %s "$@"\n'
         self.environment["DIQENYU_REVIEW"] = self.stand_in("review", script % (down, once, what, shlex.quote(program("review"))))
@@ -219,6 +352,11 @@ class NoAnswer(Sweeps):
 def program(name):
     """The program that a stand-in runs."""
     return os.path.abspath(os.environ.get("DIQENYU_" + name.upper()) or os.path.join(TOP, name))
+
+
+def built(name):
+    """The program of the sources, where it is built."""
+    return subprocess.run([os.path.join(TOP, "launch"), "--built", name], stdout=subprocess.PIPE).stdout.decode().strip()
 
 
 def whole_results(folder):
@@ -263,6 +401,38 @@ class Failures(unittest.TestCase):
         # A device takes its links' ends down, so it is no pair with one of its own ends alone.
         self.assertEqual(list(failures.pairs_of(found, possible)), [(0, 1), (0, 4), (1, 3), (3, 4)])
         self.assertEqual(failures.both(found[0].changes, found[1].changes)["old"], {"1.cfg": ["E0", "E1"]})
+
+
+class Steps(unittest.TestCase):
+    """The way of a window through the networks of failures."""
+
+    def setUp(self):
+        self.scratch = tempfile.mkdtemp(prefix="diqenyu-test-")
+        self.addCleanup(shutil.rmtree, self.scratch)
+        self.texts = {name + ".cfg": "hostname %s\ninterface E0\ninterface E1\n" % name for name in "ABC"}
+        for file, text in self.texts.items():
+            write(os.path.join(self.scratch, "net", file), text)
+        self.window = windows.Window(self.scratch, os.path.join(self.scratch, "net"))
+
+    def shut(self, file, *interfaces):
+        return failures.Configuration(self.texts[file]).shut(interfaces)
+
+    def test_there_and_back(self):
+        for changes in {"A.cfg": ["E0"], "B.cfg": ["E0"]}, {"C.cfg": ["E0"], "A.cfg": ["E1"]}, {"B.cfg": ["E0", "E1"]}:
+            self.assertTrue(self.window.add(changes))
+        ways = [("A.cfg", "E0"), ("B.cfg", "E0"), ("B.cfg",), ("A.cfg", "E1"), ("C.cfg", "E0"), ("C.cfg",), ("A.cfg",), ("B.cfg", "E0", "E1")]
+        wanted = [self.shut(*way) for way in ways]
+        self.assertEqual([read(os.path.join(self.scratch, str(step + 1))).decode() for step in range(self.window.steps)], wanted)
+        self.assertEqual((self.window.places, self.window.bytes), ([2, 5, 8], sum(map(len, wanted))))
+
+    def test_as_much_as_a_window_may_have(self):
+        for name, most in ("MOST_STEPS", 4), ("MOST_BYTES", 4 * len(self.texts["A.cfg"]) + 30):
+            self.addCleanup(setattr, windows, name, getattr(windows, name))
+            setattr(windows, name, most)
+            window = windows.Window(self.scratch, self.window.network)
+            added = [window.add(changes) for changes in ({"A.cfg": ["E0"], "B.cfg": ["E0"]}, {"C.cfg": ["E0"], "B.cfg": ["E1"]}, {"A.cfg": ["E1"]})]
+            self.assertEqual((added, window.places), ([True, False, True], [2, 4]))
+            setattr(windows, name, 1 << 26)
 
 
 class OverSsh(Sweeps):
