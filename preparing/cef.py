@@ -18,6 +18,8 @@ def read_cef(path):
             if prefix is None or int(row["length"]) > 32:
                 raise Refused(path, number, "BadWord", row["prefix"])
             last = prefix, int(row["length"])
+            if last in prefixes:
+                raise Refused(path, number, "PrefixTwice", row["prefix"])
             prefixes[last] = (number, set())
         if last is None:
             raise Refused(path, number, "PrefixMissing", row["hop"] or row["word"])
@@ -35,6 +37,8 @@ class Lookup:
 
     def __init__(self, table):
         self.ways = {}
+        # Where a next hop leads, by the hop and by how often it may still be looked up again.
+        self.known = {}
         for route in table.routes:
             self.ways.setdefault((route.prefix, route.length), []).append(route)
 
@@ -55,7 +59,9 @@ class Lookup:
             elif way.interface is not None:
                 found.add((way.interface, way.hop))
             else:
-                further = self.resolved(self.longest(way.hop), depth - 1) or {"drop"}
+                if (way.hop, depth) not in self.known:
+                    self.known[way.hop, depth] = self.resolved(self.longest(way.hop), depth - 1) or {"drop"}
+                further = self.known[way.hop, depth]
                 found |= {one if one == "drop" or one[1] is not None else (one[0], way.hop) for one in further}
         return found
 

@@ -7,7 +7,7 @@ from dataclasses import dataclass
 
 from .addresses import address_of, is_number
 from .blocks import Block
-from .groups import Groups, Service, is_group
+from .groups import MOST_ENTRIES, Groups, Service, is_group
 from .texts import Line
 
 GREATEST = 2147483647
@@ -48,20 +48,20 @@ def entry_lines(block):
 
 def items_of(blocks):
     """The items of each list, in the order of the text, with the numbers that the device gives them."""
-    lists = {}
+    lists, greatest = {}, {}
     for block in blocks:
         name = list_name(block)
         if name is None:
             continue
         items = lists.setdefault(name, [])
         for line, words in entry_lines(block):
-            items.append(item_of(line, words, items))
+            items.append(item_of(line, words, greatest.get(name, 0)))
+            greatest[name] = max(greatest.get(name, 0), items[-1].sequence or 0)
     return lists
 
 
-def item_of(line, words, items):
-    """The item of a line, behind those that come before it."""
-    greatest = max((item.sequence for item in items if item.sequence), default=0)
+def item_of(line, words, greatest):
+    """The item of a line, behind those that come before it, whose greatest number is given."""
     number = None
     if is_number(words[0]):
         number, words = int(words[0]), words[1:]
@@ -136,6 +136,8 @@ class Expansion:
             raise self.refused("ExtraWord", (source_ports or destination_ports)[0])
         if "object-group" in self.rest:
             raise self.refused("ExtraWord", "object-group")
+        if len(services) * len(sources) * len(destinations) > MOST_ENTRIES:
+            raise self.refused("TooManyEntries", str(len(services) * len(sources) * len(destinations)))
         action = [self.item.words[0]]
         return [
             action + [service.protocol] + source + list(service.source or source_ports) + destination
@@ -165,6 +167,8 @@ def new_block(name, items, expanded, factor, told):
     block = Block(Line("ip access-list extended %s" % name, first.path, first.number))
     for item, entries in zip(items, expanded):
         if item.sequence is None:
+            if item.line.words() != item.words:
+                told.line(item.line, "replaced", "it stands in the section of list %s, as the list has groups" % name)
             block.body.append(item.line.again(" " + " ".join(item.words)))
             continue
         if names_groups(item):
@@ -204,6 +208,8 @@ def expand_groups(device, told):
         name = list_name(block)
         if name in new:
             kept = block.comments()
+            for line in block.inner() if block.words()[0] == "access-list" else []:
+                told.line(line, "left out", "the command above it has no section")
             if new[name] is not None:
                 blocks.append(new[name])
                 new[name] = None

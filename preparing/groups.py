@@ -5,6 +5,9 @@ from .addresses import address_of, endpoint_words, fewest_prefixes, length_of, m
 from .texts import Line
 
 KINDS = ("network", "service")
+# More entries than the verifier reads of one file, and more groups one within the other than anyone writes.
+MOST_ENTRIES = 1000000
+DEEPEST = 100
 # The protocols of a service group that take ports; the others stand alone, and icmp may have a type.
 WITH_PORTS = ("tcp", "udp", "tcp-udp", "6", "17")
 PROTOCOLS = ("ahp", "eigrp", "esp", "gre", "icmp", "igmp", "ip", "ipinip", "nos", "ospf", "pcp", "pim")
@@ -86,6 +89,8 @@ class Groups:
         group, found = self.find(line, name, kind), []
         if name in above:
             raise line.refused("GroupInItself", name)
+        if len(above) == DEEPEST:
+            raise line.refused("GroupTooDeep", name)
         for member in group.members:
             words = member.words()
             if words[0] == "group-object":
@@ -94,6 +99,8 @@ class Groups:
                 found += self.members(member, words[1], kind, meaning, above + (name,))
             else:
                 found += meaning(member)
+            if len(found) > MOST_ENTRIES:
+                raise member.refused("TooManyEntries", name)
         return found
 
 

@@ -21,11 +21,14 @@ SUBCODES = {
     "U": set(),
 }
 FLAGS = {"+", "%", "&", "p"}
+# Where textfsm would divide a line of its own accord.
+DIVIDING = re.compile("[\x0b\x0c\r\x1c-\x1e]")
 
 
 @dataclass(frozen=True)
 class Route:
-    """One way of a route, as the table has it: without a next hop it is directly connected; a next hop alone is looked up again."""
+    """One way of a route, as the table has it: without a next hop it is directly connected; a next hop alone is looked up again.
+    A candidate, with a star, may be the network through which the gateway of last resort came."""
 
     prefix: int
     length: int
@@ -34,6 +37,7 @@ class Route:
     hop: int
     interface: str
     line: int
+    candidate: bool = False
 
     def text(self):
         """The prefix with its length."""
@@ -55,6 +59,9 @@ class Table:
 def parsed(template, path):
     """The records of a text by a template: a dictionary for each line that says something."""
     lines = read_lines(path)
+    for line in lines:
+        if DIVIDING.search(line.text):
+            raise line.refused("ControlCharacter", "0x%02x" % ord(DIVIDING.search(line.text).group()))
     with open(os.path.join(TEMPLATES, template), encoding="ascii") as file:
         machine = textfsm.TextFSM(file)
     text = "".join("%d|%s\n" % (line.number, line.text) for line in lines)
@@ -210,7 +217,7 @@ class Reader:
         self.prefixes.add((prefix, length))
         self.open_entry = {
             "prefix": prefix, "length": length, "code": self.read_code(), "line": int(self.row["line"]), "ways": 0,
-            "text": self.row["prefix"],
+            "text": self.row["prefix"], "candidate": "*" in self.row["code"],
         }
 
     def read_way(self):
@@ -234,7 +241,8 @@ class Reader:
             self.wrapped = entry
         elif self.row["comma"]:
             raise self.refused("ExtraWord", ",")
-        route = Route(entry["prefix"], entry["length"], entry["code"], distance, hop, interface, int(self.row["line"]))
+        route = Route(
+            entry["prefix"], entry["length"], entry["code"], distance, hop, interface, int(self.row["line"]), entry["candidate"])
         self.check(route)
         self.tables[-1].routes.append(route)
 
@@ -252,22 +260,28 @@ class Reader:
             raise self.refused("UnknownLine", self.row["interface"])
         last = self.tables[-1].routes.pop()
         hop = None if self.row["interface"] == "Null0" else last.hop
-        self.tables[-1].routes.append(Route(last.prefix, last.length, last.code, last.distance, hop, self.row["interface"], last.line))
+        self.tables[-1].routes.append(replace(last, hop=hop, interface=self.row["interface"]))
         self.wrapped = None
 
 
 def check_counts(path, table, headers):
     """What the headers count is there: a table that was cut, or of which a part was asked, isn't taken for the whole."""
-    prefixes = {(route.prefix, route.length) for route in table.routes}
+    by_network = {}
+    for prefix, length in {(route.prefix, route.length) for route in table.routes}:
+        natural = natural_length(prefix)
+        if natural is not None and length >= natural:
+            by_network.setdefault(prefix & mask_of(natural), set()).add((prefix, length))
     for header in headers:
-        inside = {
-            (prefix, length) for prefix, length in prefixes
-            if length >= header["natural"] and holds(header["network"], header["natural"], prefix)
-        }
+        inside = by_network.get(header["network"], set())
         if len(inside) != header["subnets"]:
             raise Refused(path, header["line"], "SubnetsMissing", "%d of %d" % (len(inside), header["subnets"]))
         if len({length for _, length in inside}) != header["masks"]:
             raise Refused(path, header["line"], "SubnetsMissing", "masks")
+
+
+def default_ways(table):
+    """The ways of the network by which the gateway of last resort came. It has a star, unlike a longer prefix with the same address."""
+    return [route for route in table.routes if route.prefix == table.default and (route.candidate or (table.default, route.length) == (0, 0))]
 
 
 def check_gateway(table):
@@ -278,9 +292,11 @@ def check_gateway(table):
         if defaults:
             raise Refused(path, defaults[0].line, "GatewayDiffers", "0.0.0.0/0")
         return
-    ways = [route for route in table.routes if route.prefix == table.default]
+    ways = default_ways(table)
     if not any((route.hop or 0) == table.gateway for route in ways):
         raise Refused(path, line, "GatewayDiffers", dotted(table.gateway))
+    if table.default != 0 and any(way.distance is None for way in ways):
+        raise Refused(path, line, "NotCovered", dotted(table.default))
     if table.default == 0 and not defaults:
         raise Refused(path, line, "GatewayDiffers", dotted(table.default))
 
@@ -300,5 +316,5 @@ def read_routes(path, vrf=None):
     check_gateway(table)
     if table.gateway is not None and table.default != 0:
         # The ways of the network by which the gateway came are those of the default route.
-        table.routes += [replace(way, prefix=0, length=0) for way in table.routes if way.prefix == table.default]
+        table.routes += [replace(way, prefix=0, length=0) for way in default_ways(table)]
     return table

@@ -28,6 +28,14 @@ def gives(static, route):
     return same_prefix and (static.interface, static.hop) == (route.interface, route.hop)
 
 
+def by_prefix(routes):
+    """Routes of a text or of a table by their prefixes: there may be thousands."""
+    found = {}
+    for route in routes:
+        found.setdefault((route.prefix, route.length), []).append(route)
+    return found
+
+
 class Replacement:
     """The routes of one device."""
 
@@ -35,7 +43,8 @@ class Replacement:
         self.device, self.table, self.keep_static, self.told = device, table, keep_static, told
         self.name = os.path.basename(table.path)
         self.interfaces = interfaces_of(device.blocks)
-        self.statics = [static_of(block.head) for block in device.blocks if is_static(block)]
+        self.statics = by_prefix(static_of(block.head) for block in device.blocks if is_static(block))
+        self.table_statics = by_prefix(route for route in table.routes if route.code == "S")
         self.check_interfaces()
 
     def check_interfaces(self):
@@ -57,12 +66,16 @@ class Replacement:
         return any(route.prefix == (address if route.length == 32 else address & mask_of(length)) and route.length in (length, 32)
                    for address, length in interface.subnets())
 
+    def statics_of(self, route):
+        """The static routes of the text that are this one of the table."""
+        return [static for static in self.statics.get((route.prefix, route.length), []) if gives(static, route)]
+
     def distance(self, route):
         """The distance of a route of the table; the table has none for a route without next hop."""
         if route.distance is not None:
             return route.distance
         if route.code == "S":
-            return next((static.distance for static in self.statics if gives(static, route)), 1)
+            return next((static.distance for static in self.statics_of(route)), 1)
         if route.interface == "Null0" and route.code in SUMMARY_DISTANCE:
             return SUMMARY_DISTANCE[route.code]
         raise Refused(self.table.path, route.line, "DistanceMissing", route.code)
@@ -96,7 +109,7 @@ class Replacement:
         if not is_static(block):
             return False
         static = static_of(block.head)
-        there = any(gives(static, route) for route in self.table.routes if route.code == "S")
+        there = any(gives(static, route) for route in self.table_statics.get((static.prefix, static.length), []))
         if self.keep_static:
             if not there:
                 self.told.block(block, "kept", "it isn't in %s: it floats, or is not installed" % self.name)
@@ -113,7 +126,10 @@ class Replacement:
         for route in self.table.routes:
             if route.code in FROM_INTERFACES:
                 continue
-            in_text = route.code == "S" and any(gives(static, route) for static in self.statics)
+            if self.keep_static and route.code == "S" and route.length == 0 and self.table.default:
+                # A default route by the network of a static route, which a ticket may change: no static route says that.
+                raise Refused(self.table.path, self.table.gateway_line, "NotCovered", dotted(self.table.default))
+            in_text = route.code == "S" and self.statics_of(route) != []
             if self.keep_static and route.code == "S":
                 kept += in_text
                 if not in_text:

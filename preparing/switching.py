@@ -45,7 +45,7 @@ def leave_out_ports(device, told):
             check_member(member, lines, sections)
             left_out += blocks
             tell(told, blocks, "it is a member of %s" % channel_of(member))
-        elif switch is not None and first_of(lines, ["no", "switchport"]) is None:
+        elif switch is not None and not any(line.words() == ["no", "switchport"] for line in lines):
             check_port(switch, lines)
             left_out += blocks
             tell(told, blocks, "it is a switch port without address")

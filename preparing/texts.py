@@ -12,6 +12,8 @@ WORD = re.compile(r"[^ \t\r]+")
 PAGER = re.compile(r"-+ ?more ?-+", re.IGNORECASE)
 # A backspace or an escape is what a pager or an editor of lines leaves behind; a zero byte is no text of a device.
 STRANGE = re.compile("[\x00\x08\x1b]")
+# No number of a device is so long, and Python reads none of more than 4,300 digits.
+LONG_NUMBER = re.compile("[0-9]{1000}")
 BYTE_ORDER_MARK = b"\xef\xbb\xbf"
 
 
@@ -82,6 +84,8 @@ def read_lines(path, notes=None):
             raise line.refused("Paged", PAGER.search(line.text).group())
         if STRANGE.search(line.text):
             raise line.refused("ControlCharacter", "0x%02x" % ord(STRANGE.search(line.text).group()))
+        if LONG_NUMBER.search(line.text):
+            raise line.refused("BadWord", LONG_NUMBER.search(line.text).group()[:64])
     return lines
 
 

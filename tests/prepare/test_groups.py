@@ -48,6 +48,18 @@ object-group service T
 """
 
 
+class Moved(unittest.TestCase):
+    """What stands elsewhere since its list has groups is told."""
+
+    def test_remarks_and_what_stands_below(self):
+        found, told = expanded(GROUPS + "access-list 101 remark x\n permit ip any any\naccess-list 101 permit ip object-group A any")
+        self.assertEqual(found[1:3], ["ip access-list extended 101", " remark x"])
+        place = GROUPS.strip().count("\n") + 2
+        wanted = ["%d replaced access-list 101 remark x: it stands in the section of list 101, as the list has groups" % place,
+                  "%d left out permit ip any any: the command above it has no section" % (place + 1)]
+        self.assertEqual([" ".join(line.split()) for line in told if str(place) in line.split() or str(place + 1) in line.split()], wanted)
+
+
 class Written(unittest.TestCase):
     """What entries with groups become, written by hand."""
 
@@ -153,11 +165,15 @@ class RefusedLines(unittest.TestCase):
         (["object-group network"], 18, "MissingWord", ""),
         (["access-list 101 10 permit ip object-group A any"], 18, "BadWord", "10"),
         (["ip access-list extended L", " 0 permit ip object-group A any"], 19, "BadWord", "0"),
+        ([line for k in range(2000) for line in ("object-group network G%d" % k, " group-object G%d" % (k + 1))]
+         + ["access-list 101 permit ip object-group G0 any"], 217, "GroupTooDeep", "G100"),
+        (["object-group network H"] + [" host 10.0.%d.%d" % divmod(k, 256) for k in range(1001)]
+         + ["access-list 101 permit ip object-group H object-group H"], 1020, "TooManyEntries", "1002001"),
     ]
 
     def test_cases(self):
         for lines, number, kind, word in self.CASES:
-            with self.subTest(lines=lines):
+            with self.subTest(lines=lines[:9]):
                 with self.assertRaises(Refused) as caught:
                     expanded(GROUPS.strip("\n") + "\n" + "\n".join(["!"] + lines))
                 fault = caught.exception

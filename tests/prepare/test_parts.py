@@ -36,6 +36,16 @@ class Switching(Parts):
         self.assertEqual(found, CORE + ["interface Ethernet1", " no switchport", " ip address 10.0.1.1 255.255.255.0"])
         self.assertEqual(told, ["6 left out switchport access vlan 7: it is no switch port: no switchport"])
 
+    def test_no_word_of_a_switch_port(self):
+        """`no switchport nonegotiate` leaves a switch port what it is."""
+        found, told = self.prepared(CORE + ["interface Ethernet1", " switchport mode trunk", " no switchport nonegotiate"])
+        self.assertEqual(found, CORE)
+        self.assertEqual(told, ["4-6 left out interface Ethernet1: it is a switch port without address"])
+
+    def test_address_of_a_switch_port(self):
+        self.refused(CORE + ["interface Ethernet1", " switchport mode trunk", " no switchport nonegotiate", " ip address 10.0.1.1 255.255.255.0"],
+                     "refused raw/R1.cfg line 7 SwitchportAddress switchport")
+
     def test_members(self):
         port = ["interface Port-channel3", " ip address 10.0.1.1 255.255.255.0"]
         found, told = self.prepared(CORE + port + ["interface Ethernet1", " no ip address", " channel-group 3 mode active"])
@@ -224,6 +234,15 @@ class Routes(Parts):
         self.write("routes/R1.txt", LEGEND)
         self.refused(CORE, "refused routes/R1.txt line 0 NoConnected R1", "--routes", "routes")
 
+    def test_default_network(self):
+        """A default route by the network of a static route is written as the table has it, and can't be kept as the text has it."""
+        self.write("routes/R1.txt", LEGEND[:2] + ["Gateway of last resort is 10.0.0.2 to network 172.16.0.0", ""] + CONNECTED
+                   + ["S*   172.16.0.0/16 [1/0] via 10.0.0.2"])
+        text = CORE + ["ip default-network 172.16.0.0", "ip route 172.16.0.0 255.255.0.0 10.0.0.2"]
+        self.refused(text, "refused routes/R1.txt line 3 NotCovered 172.16.0.0", "--routes", "routes", "--keep-static")
+        found, _ = self.prepared(text, "--routes", "routes")
+        self.assertEqual(found, CORE + ["ip route 172.16.0.0 255.255.0.0 10.0.0.2", "ip route 0.0.0.0 0.0.0.0 10.0.0.2"])
+
     def cef(self, *lines):
         self.write("routes/R1.cef", ["Prefix               Next Hop             Interface", "0.0.0.0/0            no route",
                                      "10.0.0.0/24          attached             Ethernet0", "10.0.0.1/32          receive              Ethernet0",
@@ -241,6 +260,7 @@ class Routes(Parts):
             (same[:1] + same[2:], "refused routes/R1.cef line 7 ForwardingDiffers 192.168.1.0/24"),
             (same[:-1], "refused routes/R1.txt line 10 ForwardingDiffers 192.168.3.0/24"),
             (same + ["192.168.4.0/24       10.0.0.2             Ethernet0"], "refused routes/R1.cef line 12 ForwardingDiffers 192.168.4.0/24"),
+            (same + [same[0].replace("10.0.0.2", "10.0.0.9")] + same, "refused routes/R1.cef line 12 PrefixTwice 192.168.1.0"),
             (same + ["192.168.4.0/24       somewhere"], "refused routes/R1.cef line 12 UnknownLine 192.168.4.0/24"),
         ):
             self.cef(*lines)

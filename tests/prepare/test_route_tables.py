@@ -6,8 +6,9 @@ import unittest
 
 import helpers
 from preparing.addresses import dotted, mask_of, natural_length
+from preparing.cef import Lookup
 from preparing.faults import Refused
-from preparing.route_tables import read_routes
+from preparing.route_tables import Route, Table, read_routes
 
 assert helpers
 LEGEND = """Codes: L - local, C - connected, S - static, R - RIP, M - mobile, B - BGP
@@ -85,6 +86,28 @@ R1#
             ("10.4.4.4/32", "U", 1, "10.1.2.2", None),
         })
 
+    def test_default_network(self):
+        """The default route has the ways of the network with the star, and not those of a longer prefix with the same address."""
+        text = LEGEND + """Gateway of last resort is 10.1.2.2 to network 10.140.0.0
+
+      10.0.0.0/8 is variably subnetted, 3 subnets, 3 masks
+C        10.1.2.0/30 is directly connected, Ethernet0
+R*       10.140.0.0/16 [120/1] via 10.1.2.2, 00:00:04, Ethernet0
+O        10.140.0.0/24 [110/2] via 10.1.2.1, 00:00:59, Ethernet0
+"""
+        self.assertEqual({route for route in read(text) if route[0] == "0.0.0.0/0"}, {("0.0.0.0/0", "R", 120, "10.1.2.2", "Ethernet0")})
+        for old, new, kind in (("R* ", "R  ", "GatewayDiffers"), ("10.1.2.2 to", "10.1.2.1 to", "GatewayDiffers")):
+            with self.assertRaises(Refused) as caught:
+                read(text.replace(old, new))
+            self.assertEqual((caught.exception.kind, caught.exception.number), (kind, 6))
+        with self.assertRaises(Refused) as caught:
+            read(text.replace("10.1.2.2 to", "0.0.0.0 to").replace("[120/1] via 10.1.2.2, 00:00:04", "is directly connected"))
+        self.assertEqual((caught.exception.kind, caught.exception.number), ("NotCovered", 6))
+
+    def test_clock_that_is_not_set(self):
+        stamp = "Load for five secs: 0%/0%; one minute: 0%; five minutes: 0%\nNo time source, *15:24:55.123 UTC Sun Nov 29 2026\n\n"
+        self.assertEqual(len(read("R1#sh ip route\n" + stamp + UNSET + "C    192.168.1.0/24 is directly connected, Vlan1\n")), 1)
+
     def test_masks_in_decimal(self):
         self.assertEqual(read(UNSET + """     10.0.0.0 255.255.255.0 is subnetted, 2 subnets
 C       10.0.1.0 255.255.255.0 is directly connected, Ethernet0
@@ -99,6 +122,19 @@ O IA    10.0.2.0 255.255.255.0 [110/20] via 10.0.1.2, 00:01:00, Ethernet0
         with self.assertRaises(Refused) as caught:
             read(text)
         self.assertEqual(caught.exception.kind, "NoTable")
+
+
+class Forwarding(unittest.TestCase):
+    """Where next hops lead that are looked up again."""
+
+    def test_hops_that_lead_to_two_hops_each(self):
+        """A next hop is looked up once, however many ways lead to it."""
+        table = Table("R1.txt")
+        for k in range(40):
+            table.routes += [Route(10 << 24 | k << 16, 16, "B", 20, 10 << 24 | k + 1 << 16 | host, None, 0) for host in (1, 2)]
+        self.assertEqual(Lookup(table).wanted(10 << 24, 16), {"drop"})
+        table.routes.append(Route(10 << 24 | 3 << 16 | 1, 32, "C", None, None, "Ethernet0", 0))
+        self.assertEqual(Lookup(table).wanted(10 << 24 | 2 << 16, 16), {"drop", ("Ethernet0", 10 << 24 | 3 << 16 | 1)})
 
 
 class Malformed(unittest.TestCase):
@@ -138,6 +174,9 @@ S        10.1.4.0/24 [1/0] via 10.1.2.2
         (12, "S        10.1.3.0/24 [1/0] via 10.1.2.2", 12, "PrefixTwice"),
         (12, " --More-- S        10.1.4.0/24 [1/0] via 10.1.2.2", 12, "Paged"),
         (12, "S        10.1.4.0/24 [1/0] via 10.1.2.2\x08", 12, "ControlCharacter"),
+        (12, "S        10.1.4.0/24 [1/0]\x0c via 10.1.2.2", 12, "ControlCharacter"),
+        (12, "\rS        10.1.4.0/24 [1/0] via 10.1.2.2", 12, "ControlCharacter"),
+        (12, "S        10.1.4.0/24 [1/%s] via 10.1.2.2" % ("9" * 5000), 12, "BadWord"),
         (6, "Gateway of last resort is 10.1.2.2 to network 0.0.0.0", 6, "GatewayDiffers"),
         (12, "S*       0.0.0.0/0 [1/0] via 10.1.2.2", 12, "GatewayDiffers"),
         (6, "", 8, "UnknownLine"),
