@@ -52,8 +52,8 @@ _diqenyu() {
             ;;
         *rollout)
             case ${#given[@]}:${given[0]:-} in
-                0:) words=audit ;;
-                1:audit) files=1 ;;
+                0:) words='audit edits rollout' ;;
+                1:audit | [1-3]:edits | [1-4]:rollout) files=1 ;;
             esac
             ;;
         *view)
