@@ -4,7 +4,8 @@
     hostile.py PROGRAM [--every N] [--jobs J] [--seconds S]
     hostile.py PROGRAM --large
 
-Each configuration, link table and question file of examples/ is cut after each of its bytes, has each byte replaced by 0, by
+Each configuration, link table and question file of examples/, or each file of its change window and of its edits where PROGRAM's name begins
+with `rollout`, is cut after each of its bytes, has each byte replaced by 0, by
 255, by a blank and by a line end, and each of its words doubled. With --every N each Nth of these texts is tried alone
 (without it, all: half an hour), and with --seconds S a run that takes longer fails. The last line is 'N passed, M failed'.
 
@@ -49,12 +50,26 @@ def words_of(example):
             yield ["ask", net, "links", "questions"], [net], ["links", "questions"]
 
 
-def cases():
+def rollout_words_of(example):
+    """The same of the program `rollout`."""
+    for steps in ("steps", "steps-leak"):
+        if os.path.exists(f"{example}/{steps}"):
+            yield ["rollout", "net", "links", "questions", steps], ["net", "changes"], ["links", "questions", steps]
+    if os.path.exists(f"{example}/edits"):
+        yield ["edits", "old", "links", "edits"], [], ["edits"]
+
+
+def sources(example):
+    """The folders whose files a case has: the edits are those of a network that stands in another example."""
+    return [example] + ([f"{TOP}/examples/list-entry"] if os.path.exists(f"{example}/edits") else [])
+
+
+def cases(of_rollout):
     for name in sorted(os.listdir(f"{TOP}/examples")):
         example = f"{TOP}/examples/{name}"
         if not os.path.isdir(example):
             continue
-        for words, folders, files in words_of(example):
+        for words, folders, files in (rollout_words_of if of_rollout else words_of)(example):
             paths = list(files)
             for folder in folders:
                 paths += [f"{folder}/{file}" for file in sorted(os.listdir(f"{example}/{folder}"))]
@@ -74,7 +89,9 @@ def judge(program, scratch, words, most):
 
 
 def wrong_end(scratch, it):
-    """What is wrong with how a run ended, or None."""
+    """What is wrong with how a run ended, or None. A spoiled path of a step may name what isn't there or can't be read."""
+    if it.returncode in (4, 8) and re.fullmatch(rb"(cannot read|not found) .*\n", it.stderr, re.DOTALL) and not it.stdout and it.args[1] == "rollout":
+        return None
     if it.returncode not in (0, 1, 3):
         return f"status {it.returncode}: {it.stderr!r}"
     if it.returncode != 3:
@@ -191,16 +208,24 @@ def try_large(program, path, text):
         return wrong, f"status {it.returncode}, {took}, {it.stderr[:100] or it.stdout[-40:]!r}"
 
 
+def from_the_folder(scratch):
+    """Steps name their files from the top: here they name them from this folder."""
+    for name in os.listdir(scratch):
+        if name.startswith("steps"):
+            with open(f"{scratch}/{name}", "rb") as it:
+                text = it.read()
+            with open(f"{scratch}/{name}", "wb") as it:
+                it.write(text.replace(b"examples/rollout/", b""))
+
+
 def try_case(task):
     program, example, words, path, every, first, most = task
     scratch = tempfile.mkdtemp(prefix="hostile")
     passed, failures, number = 0, [], first
     try:
-        for name in os.listdir(example):
-            if os.path.isdir(f"{example}/{name}"):
-                shutil.copytree(f"{example}/{name}", f"{scratch}/{name}")
-            else:
-                shutil.copy(f"{example}/{name}", scratch)
+        for source in sources(example):
+            shutil.copytree(source, scratch, dirs_exist_ok=True)
+        from_the_folder(scratch)
         with open(f"{scratch}/{path}", "rb") as it:
             text = it.read()
         for what, bad in spoiled(text):
@@ -246,7 +271,7 @@ def main():
             most = float(value)
     program = os.path.abspath(words[0])
     # Each case begins at another text, so that a short run tries other places of each.
-    tasks = [(program, *case, every, number * 7, most) for number, case in enumerate(cases())]
+    tasks = [(program, *case, every, number * 7, most) for number, case in enumerate(cases(os.path.basename(program).startswith("rollout")))]
     passed = failed = 0
     with multiprocessing.Pool(jobs) as pool:
         for right, failures in pool.imap_unordered(try_case, tasks):

@@ -3,7 +3,8 @@
 
     refused.py PROGRAM [--rows NAME,..] [--every N] [--jobs J] [--seconds S]
 
-Each row is a command over files of examples/ or of bench/networks.py: of `review`, or of `rollout` where PROGRAM's name begins so. It is run once with all memory; then for each number N, from 1 on
+Each row is a command over files of examples/ or of bench/networks.py: of `review`, or of `rollout` where PROGRAM's name begins so.
+It is run once with all memory; then for each number N, from 1 on
 until a run makes fewer requests, once with the Nth request refused alone and once with all from the Nth on refused. A thread that
 can't be started is a request that is refused, too. With --every N each Nth number is tried alone. No run may end in another way, take
 longer than S seconds (60), or end by a signal. The last line is 'N passed, M failed'.
