@@ -15,8 +15,8 @@ use Rattle.ios_lines.specs.declared.fault.Fault.{Fault}
 use Rattle.ios_lines.specs.declared.fault.Kind.TheVariants as kind
 use Rattle.ios_lists.specs.declared.refused.ListPart.TheVariants as list_part
 use Rattle.ios_lists.specs.Refused.{list_refuses}
-use Rattle.ios_lists.specs.declared.entries.Trailing.{Trailing}
-use Rattle.ios_lists.specs.declared.entries.FlagMasks.{FlagMasks}
+use Rattle.ios_lists.specs.declared.trailing.Trailing.{Trailing}
+use Rattle.ios_lists.specs.declared.trailing.FlagMasks.{FlagMasks}
 use Rattle.ios_lines.specs.Words.{none_refused, ◌>>=◌, Word, Words, fault_of, next_word, allowed_word, address_at, ended}
 use Rattle.ios_lines.specs.Words.{hop_of}
 

@@ -1,5 +1,5 @@
 -- The words that the commands of access lists don't cover, where they are read as the next word.
-use Rattle.std.specs.Prelude.{ℕ, Bool, not, ◌||◌, List, codes}
+use Rattle.std.specs.Prelude.{Bool, not, ◌||◌, codes}
 use Rattle.std.specs.Str.{bytes_eq}
 use Rattle.ios_lines.specs.Words.{Word}
 use Rattle.ios_lists.specs.declared.refused.ListPart.{ListPart}

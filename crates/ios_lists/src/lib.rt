@@ -4,8 +4,10 @@
 //! of `ip access-list`, have their entries read by one reader.
 #![tactic(auto)]
 
+mod endpoints;
 mod entries;
 mod lists;
 mod refused;
+mod trailing;
 
 pub use lists::{list_line, numbered_list, open_list};

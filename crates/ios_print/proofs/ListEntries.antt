@@ -20,8 +20,8 @@ use Rattle.ios_lines.specs.declared.fault.Kind.TheVariants as kind
 use Rattle.ios_lists.specs.declared.refused.ListPart.TheVariants as list_part
 use Rattle.ios_lists.specs.Refused.{list_refuses}
 use Rattle.ios_lines.specs.Words.{none_refused, ◌>>=◌, Word, Words, fault_of, next_word, allowed_word, address_at, ended, hop_of}
-use Rattle.ios_lists.specs.declared.entries.Trailing.{Trailing}
-use Rattle.ios_lists.specs.declared.entries.FlagMasks.{FlagMasks}
+use Rattle.ios_lists.specs.declared.trailing.Trailing.{Trailing}
+use Rattle.ios_lists.specs.declared.trailing.FlagMasks.{FlagMasks}
 use Rattle.ios_lists.specs.Entries.{any_address, one_address, masked_by, host_at, with_wildcard, lone_address, standard_by, standard_at, wild_address, endpoint_by, endpoint_at, after_log, standard_entry, proto_at, port_at, lead, leading, equal_test, other_test, greater_test, less_test, range_test, port_test_by, port_test_of, has_ports, port_test_at, no_trailing, is_log, with_flags, message_test, code_of, after_code, icmp_by, icmp_at, signed_by, signed_of, lead_flag, leading_flags, no_flags, add_flag, signed_at, any_flags, all_flags, bare_flag, flags_at, test_by, trailing_by, trailing_at, trailing_words, extended_entry, entry_at}
 use Rattle.ios_print.specs.PrintableLists.{IsMasked, IsProto, IsPortNumber, IsPortTest, IsIcmpTest, IsFlagMask, IsFlagTest, IsEntry}
 use Rattle.ios_print.proofs.Has.{Each, Has, then_has, some_has, if_has, next_has, allowed_has, address_bound, address_has, number_bounds}

@@ -14,8 +14,8 @@ use Rattle.ios_lines.specs.declared.fault.Fault.{Fault}
 use Rattle.ios_lists.specs.declared.refused.ListPart.TheVariants as list_part
 use Rattle.ios_lists.specs.Refused.{list_refuses, refused_after_destination}
 use Rattle.ios_lines.specs.Words.{Word, Words, allowed_word, ended}
-use Rattle.ios_lists.specs.declared.entries.Trailing.{Trailing}
-use Rattle.ios_lists.specs.declared.entries.FlagMasks.{FlagMasks}
+use Rattle.ios_lists.specs.declared.trailing.Trailing.{Trailing}
+use Rattle.ios_lists.specs.declared.trailing.FlagMasks.{FlagMasks}
 use Rattle.ios_lists.specs.Entries.{is_log, trailing_at, trailing_words, signed_of, leading_flags, no_flags, add_flag, signed_at, any_flags, all_flags, port_test_at, has_ports}
 use Rattle.ios_print.specs.Print.{icmp_words, flag_words, mask_words, flag_word, flag_names}
 use Rattle.ios_print.specs.PrintableLists.{IsIcmpTest, IsFlagMask, IsFlagTest}
