@@ -83,7 +83,7 @@ fn read_lines(alloc: Global, bytes: &[u8], lines: &[Line]) -> Result<Draft, Conf
 }
 
 /// The configuration after the last line, or what is refused then.
-fn finish(alloc: Global, draft: Draft) -> Result<Reading, ConfigFail>
+pub(crate) fn finish(alloc: Global, draft: Draft) -> Result<Reading, ConfigFail>
     ensures { Finished (parts draft) result }
 {
     let Draft {
