@@ -21,7 +21,7 @@ use Rattle.net_load.specs.declared.folder.LoadFail.TheVariants as fail
 use Rattle.net_load.specs.Folder.{AreConfigNames, IsRead, AreLoaded, file_at, size_at, total, Unless, UnlessMemory, UnlessFault, BytesFail, ContentFails, FailsAt, NoFolder, TooMany, Stages, Loads}
 
 -- the names of a folder's configurations are one list
-names_once : (t : Told) (folder : Word) (ns ms : List Word) → AreConfigNames t folder ns → AreConfigNames t folder ms → ns ≡ ms
+pub names_once : (t : Told) (folder : Word) (ns ms : List Word) → AreConfigNames t folder ns → AreConfigNames t folder ms → ns ≡ ms
 names_once t folder ns ms a b =
     is_in_order name_cmp name_total name_exact ms ns a.order (λ q. (λ h. (b.all q).1 ((a.all q).0 h), λ h. (a.all q).1 ((b.all q).0 h)))
     ∙ sym (is_in_order name_cmp name_total name_exact ms ms b.order (λ q. (λ h. h, λ h. h)))

@@ -113,8 +113,10 @@ fn list_fail(alloc: Global, folder: &str, cause: FileFail) -> LoadFail
     }
 }
 
-/// The names of a folder's configurations, in the order of their bytes.
-fn list_configs<F: Files>(
+/// The names of a folder's configurations, in the order of their bytes; however many there are.
+///
+/// Where there are none to be had the answer is `Fault`, `Absent` or `NoMemory`.
+pub fn list_configs<F: Files>(
     alloc: Global,
     files: &mut F,
     folder: &str,

@@ -6,5 +6,5 @@ pub mod laws;
 mod loader;
 mod numbering;
 
-pub use folder::{LoadFail, load_folder};
+pub use folder::{LoadFail, list_configs, load_folder};
 pub use numbering::{Numbered, NumberedBoth, number_all, number_both};
