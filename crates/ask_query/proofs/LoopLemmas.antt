@@ -34,7 +34,7 @@ use Rattle.set_walk.proofs.WalkLemmas.{level_kept}
 use Rattle.set_walk.proofs.CircleLemmas.{same_on, level_on}
 use Rattle.ask_query.specs.declared.looping.Level.{Level}
 use Rattle.net_types.specs.Questions.{Loops}
-use Rattle.ask_query.specs.Looping.{AreLevels, ByWay, GoesOn, IsBack, LoopsFrom, Returns, unchanged_at}
+use Rattle.ask_query.specs.Looping.{AreLevels, ByWay, GoesOn, IsBack, LeadsTo, LoopsFrom, Returns, unchanged_at}
 use Rattle.net_types.proofs.QuestionLaws.{walks_on}
 use Rattle.ask_query.proofs.ReachingLemmas.{empty_set}
 use Rattle.ask_query.proofs.WayLemmas.{got}
@@ -204,16 +204,17 @@ back_at w room h step.Lost b = absurd b
 back_at w room h (step.Exit q s) b = absurd b
 back_at w room h (step.Go q s) b = (state_at q (applied s h), refl, b)
 
-at_back : (w : World) (room : ℕ) (h : Header) (m : Step) (u : State) → move_of h m ≡ Go u.place u.header → Returns w room u → IsBack w room m h
-at_back w room h step.Drop u e r = cc
-at_back w room h (step.Local q) u e r = cc
-at_back w room h step.Lost u e r = cc
-at_back w room h (step.Exit q s) u e r = cc
-at_back w room h (step.Go q s) u e r =
+-- a step by which it comes to a state leads it there
+pub leads_to : (P : State → Type 0) (h : Header) (m : Step) (u : State) → move_of h m ≡ Go u.place u.header → P u → LeadsTo P m h
+leads_to P h step.Drop u e r = cc
+leads_to P h (step.Local q) u e r = cc
+leads_to P h step.Lost u e r = cc
+leads_to P h (step.Exit q s) u e r = cc
+leads_to P h (step.Go q s) u e r =
     let a = same_place h u.place u.header q (applied s h) e in
     let b = same_header h u.place u.header q (applied s h) e in
     let same : u ≡ state_at q (applied s h) = λ i. record { place = sym a i; header = sym b i } in
-    subst (λ x. Returns w room x) same r
+    subst P same r
 
 from_or_at : (n m : ℕ) → n ≤ m → (m ≡ n) ⊎ (n + 1 ≤ m)
 from_or_at n m l = elim (cases_lt n m) [ inl a ↦ inr (omega (arith, a)) | inr b ↦ inl (omega (arith, l, b)) ]
@@ -252,7 +253,7 @@ loops_next w start t0 t1 domain t room n p groups lasting old new l e level last
                 let o = x.1.loop in
                 let b = o.within in
                 let a = (level.exact h v o.state).1 (x.0, states_from_walk w n (state_at p h) o.state (subst (λ k. IsWalk w k (state_at p h) o.state) m o.comes)) in
-                inr (record { way = a.way; among = a.among; inside = a.inside; holds = (last h v x.0 o, at_back w room h a.way.step o.state a.made (record { around = o.around; moves = o.moves; within = omega (arith, l, e, m, b); again = o.again })) })
+                inr (record { way = a.way; among = a.among; inside = a.inside; holds = (last h v x.0 o, leads_to (Returns w room) h a.way.step o.state a.made (record { around = o.around; moves = o.moves; within = omega (arith, l, e, m, b); again = o.again })) })
           ]
           ),
     )
@@ -321,6 +322,10 @@ some_back w room t0 t1 t2 t3 t4 place s m found headers lasting asked rest back 
         ]
       ]),
     )
+
+-- of no headers none loop
+pub nothing_loops : (w : World) (t : ℕ) (f : Functions) (p : Place) (domain : ℕ) → GivesNothing (value_at f domain) → IsSetOf f domain (λ h. InSet f domain h × Loops w t p h)
+nothing_loops w t f p domain none h v = (λ i. absurd (no_header f domain h none (number-below h v) i), λ x. x.0)
 
 -- the filter's headers that loop
 pub of_filter : (f g : Functions) (filter set : ℕ) (F P : Header → Type 0) → IsSetOf f filter F → IsSetOf g set (λ h. InSet f filter h × P h) → IsSetOf g set (λ h. F h × P h)

@@ -9,6 +9,7 @@ use Rattle.ask_query.specs.declared.shared.Asked.{Asked}
 use Rattle.ask_query.specs.Shared.{IsAsked}
 use Rattle.ask_query.specs.Slots.{AnswerNumbers}
 use Rattle.ask_query.proofs.AnswerLemmas.{filter_kept}
+use Rattle.ask_query.proofs.BoundsLemmas.{below_kept, bounds_kept}
 use Rattle.ask_query.proofs.WholeLemmas.{whole_kept}
 
 pub asked_kept : (f g : Functions) (a : Asked) → Keeps f g → IsAsked f a → IsAsked g a
@@ -17,6 +18,8 @@ asked_kept f g a k i =
       net = whole_kept f g a.net.now k i.net;
       domain = kept_below f g a.domain k i.domain;
       filters = λ q c. filter_kept f g a.domain q k i.domain (i.filters q c);
+      sets = below_kept f g a.bounds.now k i.sets;
+      bounds = bounds_kept f g a.net.now a.bounds.now k i.sets i.bounds;
       ttl = i.ttl;
       below = i.below;
       each = i.each;

@@ -14,12 +14,12 @@ use Rattle.ask_query.proofs.AnswerLemmas.{zip_more}
 use Rattle.ask_query.specs.Slots.{numbers_at, numbers_of, AreBelow, IsInSlot, HaveSlots, AnswersNumber, AreRight, IsKnown}
 
 -- ---- one item of a list is set, or one more stands last
-set_same : {A : Type 0} (xs : List A) (i : ℕ) (v : A) → i < length xs → slice_get (slice_set xs i v) i ≡ Some v
+pub set_same : {A : Type 0} (xs : List A) (i : ℕ) (v : A) → i < length xs → slice_get (slice_set xs i v) i ≡ Some v
 set_same [] i v l = absurd (omega (arith, l))
 set_same (x ∷ xs) zero v l = refl
 set_same (x ∷ xs) (suc i) v l = set_same xs i v (omega (arith, l))
 
-set_other : {A : Type 0} (xs : List A) (i j : ℕ) (v : A) → i ≢ j → slice_get (slice_set xs i v) j ≡ slice_get xs j
+pub set_other : {A : Type 0} (xs : List A) (i j : ℕ) (v : A) → i ≢ j → slice_get (slice_set xs i v) j ≡ slice_get xs j
 set_other [] i j v n = refl
 set_other (x ∷ xs) zero zero v n = absurd (n refl)
 set_other (x ∷ xs) zero (suc j) v n = refl

@@ -45,13 +45,17 @@ pub record Returns (w : World) (room : ℕ) (u : State) : Type 0 where
   pub within : around ≤ room
   pub again : IsWalk w around u u
 
--- so it is with the state to which the step leads the header
+-- the step leads the header to a state of which this holds
+abbrev pub LeadsTo : (State → Type 0) → Step → Header → Type 0
+LeadsTo P step.Drop h = ⊥
+LeadsTo P (step.Local p) h = ⊥
+LeadsTo P step.Lost h = ⊥
+LeadsTo P (step.Exit p s) h = ⊥
+LeadsTo P (step.Go p s) h = P (state_at p (applied s h))
+
+-- a walk leads from there to there again
 abbrev pub IsBack : World → ℕ → Step → Header → Type 0
-IsBack w room step.Drop h = ⊥
-IsBack w room (step.Local p) h = ⊥
-IsBack w room step.Lost h = ⊥
-IsBack w room (step.Exit p s) h = ⊥
-IsBack w room (step.Go p s) h = Returns w room (state_at p (applied s h))
+IsBack w room = LeadsTo (Returns w room)
 
 -- the header loops, and comes to the state of the loop after n moves or more
 pub record LoopsFrom (w : World) (t : ℕ) (p : Place) (n : ℕ) (h : Header) : Type 0 where

@@ -6,15 +6,19 @@ use Rattle.net_types.specs.World.{World}
 use Rattle.net_view.specs.Borrowed.{world_of}
 use Rattle.ask_query.specs.declared.shared.Asked.{Asked}
 use Rattle.ask_query.specs.declared.slots.Slot.{Slot}
+use Rattle.ask_query.specs.Bounds.{AreInTable, AreBounds}
 use Rattle.ask_query.specs.Breaking.{HaveFilters}
 use Rattle.ask_query.specs.Slots.{AreBelow, HaveSlots}
 use Rattle.ask_query.specs.WholeNets.{IsWholeNet}
 
--- questions on a whole network, of whose filters the domain has all headers, each in one of few slots of their numbers
+-- questions on a whole network, of whose filters the domain has all headers and of whose loops the bounds have all that enter one, each
+-- in one of few slots of their numbers
 pub record IsAsked (fs : Functions) (a : Asked) : Type 0 where
   pub net : IsWholeNet fs a.net.now
   pub domain : a.domain < count_of fs
   pub filters : HaveFilters fs a.domain a.questions.now
+  pub sets : AreInTable fs a.bounds.now
+  pub bounds : AreBounds fs a.net.now a.bounds.now
   pub ttl : 1 ≤ a.ttl
   pub below : AreBelow (length a.questions.now) a.slots.now
   pub each : HaveSlots (length a.questions.now) a.slots.now

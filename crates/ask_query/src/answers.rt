@@ -17,6 +17,7 @@ ghost use Rattle.ask_query.specs.Breaking.{AreBreaking, HasFilter, HaveFilters, 
 ghost use Rattle.ask_query.specs.Slots.{AnswerNumbers};
 ghost use Rattle.ask_query.specs.Shared.{IsAsked};
 
+use crate::bounds::bound_at;
 use crate::looping::looping;
 use crate::reaching::headers_to;
 use crate::shared::Asked;
@@ -167,7 +168,7 @@ fn ending(table: &mut Diagrams, ends: &[OutcomeSet], question: &Question) -> Res
     Ok(set)
 }
 
-// The headers of the filter that loop.
+// The headers of the filter that loop. Only those that may enter a loop are walked.
 fn filtered_loops(
     alloc: Global,
     table: &mut Diagrams,
@@ -179,8 +180,12 @@ fn filtered_loops(
     ensures exact { IfOk result (λ r. IsSetOf table.new r (λ h. IsIn question.now.filter (number h) × Loops (world_of asked.now.net.now.world) asked.now.ttl question.now.from h)) }
     ensures kept { Keeps table.old table.new }
 {
+    let Some(bound) = bound_at(asked.net.places, asked.bounds, question.from) else {
+        return Ok(table.nothing());
+    };
     let filter = filter_set(table, &question.filter)?;
-    let set = looping(alloc, table, asked.net, question.from, filter, asked.ttl)?;
+    let domain = both(table, filter, bound)?;
+    let set = looping(alloc, table, asked.net, question.from, domain, asked.ttl)?;
     Ok(set)
 }
 

@@ -8,6 +8,7 @@
 mod answering;
 mod answers;
 mod asked;
+mod bounds;
 mod devices;
 mod fields;
 mod gathering;

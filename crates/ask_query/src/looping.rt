@@ -71,6 +71,9 @@ pub(crate) fn looping(
     ensures exact { IfOk result (λ r. IsSetOf table.new r (λ h. InSet table.old domain h × Loops (world_of net.now.world) ttl place h)) }
     ensures kept { Keeps table.old table.new }
 {
+    if table.is_nothing(domain) {
+        return Ok(domain);
+    }
     let levels = levels_of(alloc, table, net, place, domain, ttl)?;
     let set = looping_in(alloc, table, net, &levels, ttl)?;
     Ok(set)

@@ -14,6 +14,8 @@ pub(crate) struct Asked<'a> {
     pub(crate) net: &'a Net<'a>,
     /// A set with the headers of all filters.
     pub(crate) domain: u32,
+    /// For each list of ways a set with the headers that enter a loop, wherever a question asks of loops.
+    pub(crate) bounds: &'a [u32],
     pub(crate) ttl: u8,
     pub(crate) questions: &'a [Question],
     pub(crate) slots: &'a [Slot],

@@ -9,6 +9,7 @@ ghost use Rattle.ask_query.specs.Shared.{IsAsked, IsNamed};
 
 use crate::answering::{Answering, BySlots};
 use crate::answers::filtered;
+use crate::bounds::loop_bounds;
 use crate::gathering::answers_of_leaves;
 use crate::shared::{Asked, Asking};
 use crate::slots::slots_of;
@@ -38,10 +39,12 @@ pub(crate) fn answers_by<G: Gate + Sync, R: Threads + Wait + Sync>(
     ensures { IfOk result (λ answers. AreAnswers (world_of net.now.world) ttl questions.now answers.items) }
 {
     let domain = filtered(&mut table, questions)?;
+    let bounds = loop_bounds(alloc, &mut table, net, questions)?;
     let slots = slots_of(alloc, questions)?;
     let asked = Asked {
         net,
         domain,
+        bounds: &bounds,
         ttl,
         questions,
         slots: &slots,

@@ -1,15 +1,16 @@
+use Rattle.std.proofs.Common.{sym, ◌∙◌}
 use Rattle.hdr_bits.specs.HeaderBits.{number}
 use Rattle.hdr_bits.specs.CubeBits.{IsIn}
-use Rattle.net_view.specs.Borrowed.{world_of}
+use Rattle.set_walk.proofs.SetLemmas.{keeps_then}
+use Rattle.ask_query.proofs.BoundsLemmas.{bounded_loops}
 use Rattle.ask_query.proofs.WholeLemmas.{whole_kept}
-use Rattle.net_types.specs.Questions.{Loops}
-use Rattle.ask_query.proofs.LoopLemmas.{of_filter}
 use Rattle.ask_query.proofs.answers.filtered_loops.Goals as goal
 
 pub looping-requires-clause-net : goal.looping-requires-clause-net
-looping-requires-clause-net c = whole_kept c.args.table.now c.filter_set.new.table c.args.asked.now.net.now c.in_ok-filter.ensures.kept c.requires.net
+looping-requires-clause-net c = whole_kept c.args.table.now c.both.new.table c.args.asked.now.net.now (keeps_then c.args.table.now c.filter_set.new.table c.both.new.table c.in_ok-filter.ensures.kept c.in_ok-domain.ensures.kept) c.requires.net
 
 pub returns-clause-exact : goal.returns-clause-exact
 returns-clause-exact c =
     let q = c.args.question.now in
-    of_filter c.filter_set.new.table c.looping.new.table c.in_ok-filter.filter c.in_ok-set.set (λ h. IsIn q.filter (number h)) (Loops (world_of c.args.asked.now.net.now.world) c.args.asked.now.ttl q.from) c.in_ok-filter.ensures.exact c.in_ok-set.ensures.exact
+    let a = c.args.asked.now in
+    bounded_loops c.args.table.now c.filter_set.new.table c.both.new.table c.looping.new.table a.net.now a.bounds.now q.from a.ttl c.in_ok-filter.filter c.in-Some.bound c.in_ok-domain.domain c.in_ok-set.set (λ h. IsIn q.filter (number h)) c.in_ok-filter.ensures.kept c.requires.sets c.requires.bounds (sym c.bound_at.ensures ∙ c.in-Some.is) c.in_ok-filter.ensures.exact c.in_ok-domain.ensures.exact c.in_ok-set.ensures.exact
