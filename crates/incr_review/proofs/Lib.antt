@@ -1,8 +1,12 @@
+pub mod ListLemmas
 pub mod FirstLemmas
 pub mod EditLemmas
+pub mod SetNumberLemmas
+pub mod FactLemmas
 pub mod PartLemmas
 pub mod WalkedLemmas
 pub mod RegionLemmas
 pub mod GroupLemmas
 pub mod ReviewLemmas
 pub mod SectionLemmas
+pub mod CountLemmas

@@ -24,6 +24,7 @@ use Rattle.incr_review.specs.Parts.{ones, IsFilled, has_header}
 use Rattle.incr_review.specs.Walked.{WalksSo, AreWalked, in_walked}
 use Rattle.incr_review.specs.Regions.{stays, in_region}
 use Rattle.incr_review.specs.Again.{leaves, old_or, as_region, AreRegionsOf, AddsRegions, AddsAgain, IsWalkIn, WasIn, AreAgain}
+use Rattle.incr_review.proofs.ListLemmas.{get_map}
 use Rattle.incr_review.proofs.PartLemmas.{filled_kept}
 use Rattle.incr_review.proofs.WalkedLemmas.{positive, some_there}
 
@@ -83,6 +84,12 @@ module _ (w : World) (t : ℕ) (p : Place) (ingress : List Place) (g : Functions
               some_there (value_at g walking.headers (number h)) (omega (arith, n, o)),
               subst (λ (x : Region). WalksSo w t q h x.new x.devices) i.2 (subst (λ z. WalksSo w t z h i.0.label i.0.devices) place (walked.right i.0 h i.1 v inside)),
             );
+        apart = λ i j q r ei ej n d.
+            let u = get_map (as_region walking) parts i q ei in
+            let v = get_map (as_region walking) parts j r ej in
+            walked.apart i j u.0 v.0 u.1 v.1
+            (ap (λ (x : Region). x.new) u.2 ∙ n ∙ ap (λ (x : Region). x.new) (sym v.2))
+            (ap (λ (x : Region). x.devices) u.2 ∙ d ∙ ap (λ (x : Region). x.devices) (sym v.2));
       }
 
 -- ---- the table grows

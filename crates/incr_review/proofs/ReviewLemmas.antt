@@ -1,5 +1,5 @@
 -- Reviews: as they are opened, and after an edit.
-use Rattle.std.proofs.Common.{ℕ, ◌≡◌, ◌<◌, ◌≤◌, ◌==◌, inl, inr, Bool, true, false, not, cond, List, [], ◌∷◌, ◌++◌, Option, Some, None, IsSome, Ok, length, slice_get, ◌+◌, refl, ap, sym, ◌∙◌, subst, eq-eqb, arith}
+use Rattle.std.proofs.Common.{ℕ, ◌≡◌, ◌<◌, ◌≤◌, ◌==◌, ◌⊎◌, inl, inr, Bool, true, false, not, cond, List, [], ◌∷◌, ◌++◌, Option, Some, None, IsSome, Ok, length, slice_get, ◌+◌, refl, ap, sym, ◌∙◌, subst, eq-eqb, arith}
 use Rattle.std.specs.Prelude.{Contains, count_by, filter}
 use Rattle.std.proofs.lemmas.Bool.{cases_Bool}
 use Rattle.std.proofs.lemmas.Bool.Decides.{nat_tests}
@@ -29,6 +29,7 @@ use Rattle.incr_review.specs.Parts.{ones}
 use Rattle.incr_review.specs.Regions.{stays, in_region, IsRight, AreReviewed, StartsWith}
 use Rattle.incr_review.specs.Again.{leaves, ArePlaced, AreRegionsOf, AreAgain, AddsAgain}
 use Rattle.incr_review.specs.Opened.{AreOpened}
+use Rattle.incr_review.proofs.ListLemmas.{get_cases, from_get}
 use Rattle.incr_review.proofs.EditLemmas.{edited_there}
 use Rattle.incr_review.proofs.PartLemmas.{filled_kept}
 use Rattle.incr_review.proofs.RegionLemmas.{split_count, region_counts_kept, again_nothing}
@@ -38,11 +39,13 @@ pub nothing_opened : (w : World) (t : ℕ) (ingress : List Place) (f : Functions
 nothing_opened w t ingress f =
     record {
       below = λ r c. absurd (in_none r c);
+      early = λ r c. absurd (in_none r c);
       placed = λ r c. absurd (in_none r c);
       some = λ r c. absurd (in_none r c);
       one = λ s h l v. absurd (omega (arith, l));
       none = λ s h l v. refl;
       right = λ r p h c e v i. absurd (in_none r c);
+      apart = record { apart = λ i j q r ei ej s o n d. absurd (in_none q (from_get [] i q ei)) };
     }
 
 one_of_all : (o : Option ℕ) → IsSome o → ones o ≡ 1
@@ -55,10 +58,17 @@ module _ (w : World) (t : ℕ) (ingress : List Place) (e g : Functions) (n scope
   both_counts : (s : ℕ) (h : Header) (a b : ℕ) → count_by (in_region g s h) rs ≡ a → count_by (in_region g s h) more ≡ b → count_by (in_region g s h) (rs ++ more) ≡ a + b
   both_counts s h a b x y = split_count (in_region g s h) rs more ∙ (λ i. x i + y i)
 
+  both_apart : (i j : ℕ) (q r : Region) → q.slot ≡ r.slot → q.old ≡ r.old → q.new ≡ r.new → q.devices ≡ r.devices → (slice_get rs i ≡ Some q) ⊎ ((m : ℕ) × (i ≡ length rs + m) × (slice_get more m ≡ Some q)) → (slice_get rs j ≡ Some r) ⊎ ((m : ℕ) × (j ≡ length rs + m) × (slice_get more m ≡ Some r)) → i ≡ j
+  both_apart i j q r s o u d (inl x) (inl y) = before.apart.apart i j q r x y s o u d
+  both_apart i j q r s o u d (inl x) (inr y) = (let a = before.early q (from_get rs i q x) in let b = own.slot_is r (from_get more y.0 r y.2) in absurd (omega (arith, a, b, s)))
+  both_apart i j q r s o u d (inr x) (inl y) = (let a = before.early r (from_get rs j r y) in let b = own.slot_is q (from_get more x.0 q x.2) in absurd (omega (arith, a, b, s)))
+  both_apart i j q r s o u d (inr x) (inr y) = (let a = own.apart x.0 y.0 q r x.2 y.2 u d in let b = x.1 in let c = y.1 in omega (arith, a, b, c))
+
   pub opened_more : AreOpened w t ingress g (n + 1) (rs ++ more)
   opened_more =
       record {
         below = λ r c. elim (Contains-append_cases rs more r c) [ inl d ↦ kept_below e g r.headers k (before.below r d) | inr d ↦ own.below r d ];
+        early = λ r c. elim (Contains-append_cases rs more r c) [ inl d ↦ (let a = before.early r d in omega (arith, a)) | inr d ↦ (let b = own.slot_is r d in omega (arith, b)) ];
         placed = λ r c. elim (Contains-append_cases rs more r c) [ inl d ↦ before.placed r d | inr d ↦ subst (λ m. m < length ingress) (sym (own.slot_is r d)) l ];
         some = λ r c. elim (Contains-append_cases rs more r c) [ inl d ↦ filled_kept e g r.headers k (before.below r d) (before.some r d) | inr d ↦ own.some r d ];
         one = λ s h m v. elim (cases_Bool (s == n)) [
@@ -80,6 +90,7 @@ module _ (w : World) (t : ℕ) (ingress : List Place) (e g : Functions) (n scope
           | inl d ↦ before.right r p h d at v ((kept_set e g r.headers h k (before.below r d)).0 i)
           | inr d ↦ (own.old_is r d, (own.right r p h d (subst (λ m. slice_get ingress m ≡ Some p) (own.slot_is r d) at) v i).1)
         ];
+        apart = record { apart = λ i j q r ei ej s o u d. both_apart i j q r s o u d (get_cases rs more i q ei) (get_cases rs more j r ej) };
       }
 
 pub opened_reviewed : (w : World) (t : ℕ) (ingress : List Place) (f : Functions) (rs : List Region) → AreOpened w t ingress f (length ingress) rs → AreReviewed w w t ingress f rs

@@ -1,19 +1,16 @@
 -- From regions to the pairs of labels of headers.
-use Rattle.std.proofs.Common.{ℕ, zero, suc, ◌≡◌, ◌<◌, ◌≤◌, ◌^◌, ◌==◌, ◌&&◌, inl, inr, Bool, true, false, cond, is_some, if◌then◌else◌, List, [], ◌∷◌, ◌++◌, Option, Some, None, IsSome, length, take, get_or, slice_get, ◌+◌, refl, ap, sym, ◌∙◌, subst, arith}
+use Rattle.std.proofs.Common.{ℕ, zero, suc, ◌≡◌, ◌<◌, ◌≤◌, ◌^◌, ◌==◌, ◌&&◌, inl, inr, Bool, true, false, cond, is_some, List, [], ◌∷◌, ◌++◌, Option, Some, None, IsSome, length, take, get_or, slice_get, ◌+◌, refl, ap, sym, ◌∙◌, subst, arith}
 use Rattle.std.specs.Prelude.{Contains, count_by}
 use Rattle.std.specs.Option.{option_or}
 use Rattle.std.specs.List.{AllZip}
 use Rattle.std.proofs.lemmas.Bool.Decides.{nat_tests}
 use Rattle.std.proofs.lemmas.List.{take_more}
 use Rattle.std.proofs.lemmas.List.Elements.{Contains-append_cases, Contains-append_left, Contains-append_right}
-use Rattle.hdr_bits.specs.declared.cube.Cube.{Cube}
-use Rattle.hdr_bits.specs.CubeBits.{IsIn, is_in}
 use Rattle.hdr_bits.specs.HeaderBits.{number, header_of}
 use Rattle.hdr_bits.specs.Lists.{Extends}
 use Rattle.hdr_bits.proofs.Numbers.{number-header_of, header_of-is_header}
-use Rattle.hdr_bits.proofs.Masks.{mask_from_in}
 use Rattle.cube_diagram.specs.Combined.{if_both}
-use Rattle.cube_diagram.specs.Entries.{first_value, cubes_value}
+use Rattle.cube_diagram.specs.Entries.{first_value}
 use Rattle.cube_diagram.specs.Functions.{Functions, Keeps, count_of, value_at}
 use Rattle.net_types.specs.declared.network.Place.{Place}
 use Rattle.net_types.specs.declared.network.Row.{Row}
@@ -26,31 +23,24 @@ use Rattle.pair_rows.specs.declared.function.PairFunction.{PairFunction}
 use Rattle.pair_rows.specs.Pairs.{Pair, IsNumberOf, AreRowsWithPairs}
 use Rattle.pair_rows.specs.Functions.{IsFunctionOf}
 use Rattle.set_walk.specs.Sets.{InSet}
-use Rattle.set_walk.proofs.SetLemmas.{keeps_then}
 use Rattle.incr_review.specs.declared.regions.Region.{Region}
 use Rattle.incr_review.specs.Parts.{has_header}
 use Rattle.incr_review.specs.Regions.{in_region, AreReviewed}
 use Rattle.incr_review.specs.Sections.{pair_of, HasPair, ArePairsOf, IsNumbered, NumbersPair, AddsPair}
 use Rattle.incr_review.proofs.RegionLemmas.{split_count}
-use Rattle.incr_review.proofs.WalkedLemmas.{zip_more}
+use Rattle.incr_review.proofs.ListLemmas.{zip_more}
 
 no_value : IsSome {T = ℕ} None → ⊥
 no_value e = cc
-
-in_test : (c : Cube) (h : ℕ) → IsIn c h → is_in c h ≡ true
-in_test c h i = let e = mask_from_in c h i in grind (arith, nat_tests, e)
 
 -- ---- numbers
 or_none : (x : Option ℕ) → option_or x None ≡ x
 or_none None = refl
 or_none (Some v) = refl
 
-pub numbered_is : (f t m k : Functions) (function set next everywhere inside r : ℕ) (all : Cube) → Keeps f t → Keeps t m → function < count_of f → set < count_of f → ((h : ℕ) → IsIn all h) → ((h : ℕ) → value_at t everywhere h ≡ cubes_value (all ∷ []) next h) → ((h : ℕ) → value_at m inside h ≡ if_both (value_at t everywhere h) (value_at t set h)) → ((h : ℕ) → value_at k r h ≡ first_value (value_at m) (function ∷ inside ∷ []) h) → IsNumbered f function set next k r
-numbered_is f t m k function set next everywhere inside r all p q la ls ins made both first h =
-    let every : value_at t everywhere h ≡ Some next = made h ∙ ap (λ b. if b then Some next else None) (in_test all h (ins h)) in
-    let two : value_at m inside h ≡ if_both (Some next) (value_at f set h) = both h ∙ (ap (λ x. if_both x (value_at t set h)) every ∙ ap (if_both (Some next)) (p.value set ls h)) in
-    let one : value_at m function h ≡ value_at f function h = (keeps_then f t m p q).value function la h in
-    first h ∙ (ap (option_or (value_at m function h)) (or_none (value_at m inside h)) ∙ (ap (λ x. option_or x (value_at m inside h)) one ∙ ap (option_or (value_at f function h)) two))
+pub numbered_is : (f m k : Functions) (function set next inside r : ℕ) → Keeps f m → function < count_of f → ((h : ℕ) → value_at m inside h ≡ if_both (Some next) (value_at f set h)) → ((h : ℕ) → value_at k r h ≡ first_value (value_at m) (function ∷ inside ∷ []) h) → IsNumbered f function set next k r
+numbered_is f m k function set next inside r p la two first h =
+    first h ∙ (ap (option_or (value_at m function h)) (or_none (value_at m inside h)) ∙ (ap (λ x. option_or x (value_at m inside h)) (p.value function la h) ∙ ap (option_or (value_at f function h)) (two h)))
 
 -- ---- one region more
 has_more : (fs : Functions) (slot : ℕ) (rs all : List Region) (h : ℕ) (pair more : Option Pair) → ((r : Region) → Contains rs r → Contains all r) → more ≡ pair → HasPair fs slot rs h pair → HasPair fs slot all h more
@@ -77,6 +67,7 @@ module _ (fs : Functions) (slot : ℕ) (rs : List Region) (q : Region) (old new 
           | inl d ↦ before.none h r l v d s i
           | inr d ↦ absurd (other (ap (λ (x : Region). x.slot) (in_one q r d) ∙ s))
         ];
+        distinct = before.distinct;
       })
 
   same_labels : q.old ≡ q.new → new ≡ old → ArePairsOf fs slot (rs ++ q ∷ []) new
@@ -87,6 +78,7 @@ module _ (fs : Functions) (slot : ℕ) (rs : List Region) (q : Region) (old new 
           | inl d ↦ before.none h r l v d s i
           | inr d ↦ subst (λ (x : Region). pair_of x ≡ None) (in_one q r d) (none_if_same q.old q.new same)
         ];
+        distinct = before.distinct;
       })
 
   other_labels : q.slot ≡ slot → (q.old ≡ q.new → ⊥) → NumbersPair fs q old new → ArePairsOf fs slot (rs ++ q ∷ []) new
@@ -100,6 +92,7 @@ module _ (fs : Functions) (slot : ℕ) (rs : List Region) (q : Region) (old new 
               | inl d ↦ before.none h r l x.0 d s i
               | inr d ↦ absurd (no_value (subst (λ o. IsSome o) x.1 (subst (λ (z : Region). IsSome (value_at fs z.headers h)) (sym (in_one q r d)) i)))
             ];
+        distinct = m.distinct;
       }
     where
       both_none : (a b : Option ℕ) → option_or a (if_both (Some m.index) b) ≡ None → (a ≡ None) × (b ≡ None)

@@ -1,8 +1,6 @@
 -- Parts as the labels and the devices of their headers.
-use Rattle.std.proofs.Common.{ℕ, ◌≡◌, ◌<◌, ◌≤◌, ◌↔◌, inl, inr, Bool, true, cond, is_some, List, [], ◌∷◌, ◌++◌, Option, Some, None, IsSome, length, take, get_or, ◌+◌, map, refl, ap, sym, ◌∙◌, subst, arith}
+use Rattle.std.proofs.Common.{ℕ, ◌≡◌, ◌<◌, ◌≤◌, ◌⊎◌, ◌↔◌, inl, inr, Bool, true, cond, is_some, List, [], ◌∷◌, Option, Some, None, IsSome, length, slice_get, ◌+◌, map, refl, ap, sym, ◌∙◌, subst, arith}
 use Rattle.std.specs.Prelude.{Contains, count_by, filter_map}
-use Rattle.std.specs.List.{AllZip}
-use Rattle.std.proofs.lemmas.List.{take_more}
 use Rattle.std.proofs.lemmas.List.Elements.{Contains-append_cases, Contains-append_left, Contains-append_right}
 use Rattle.std.proofs.lemmas.List.Sums.{sum_by-append}
 use Rattle.hdr_bits.specs.declared.header.Header.{Header}
@@ -11,27 +9,29 @@ use Rattle.cube_diagram.specs.Functions.{Functions, Keeps, count_of, value_at}
 use Rattle.net_types.specs.declared.label.Outcome.{Outcome}
 use Rattle.net_types.specs.declared.network.Place.{Place}
 use Rattle.net_types.specs.World.{World}
-use Rattle.net_types.specs.Order.{outcome_cmp}
+use Rattle.net_types.specs.Order.{in_order, outcome_cmp}
 use Rattle.net_types.specs.Walks.{label}
 use Rattle.net_types.specs.Visits as visiting
 use Rattle.net_types.proofs.Members.{here, there, in_cons, in_none, in_map, to_map, in_filter_map, to_filter_map}
 use Rattle.net_types.proofs.Outcomes.{total, exact}
-use Rattle.net_types.proofs.Ordered.{is_in_order}
+use Rattle.net_types.proofs.Ordered.{is_in_order, in_order_has, has_from_Contains, Contains_from_has}
 use Rattle.net_types.proofs.EndLaws.{label_sorted, label_some}
 use Rattle.set_walk.specs.declared.ends.OutcomeSet.{OutcomeSet}
 use Rattle.set_walk.specs.declared.visits.DeviceVisitors.{DeviceVisitors}
 use Rattle.set_walk.specs.Sets.{InSet}
-use Rattle.set_walk.specs.Outcomes.{AreLabels, AreEndsBelow, HasOutcome}
-use Rattle.set_walk.specs.Visits.{AreVisitors, AreVisitorsBelow, HasVisitor}
+use Rattle.set_walk.specs.Outcomes.{AreLabels, AreEndsBelow, AreOnce, HasOutcome}
+use Rattle.set_walk.specs.Visits.{AreVisitors, AreVisitorsBelow, HasVisitor, StandApart}
 use Rattle.set_walk.proofs.SetLemmas.{kept_set, kept_below}
 use Rattle.incr_review.specs.declared.facts.FactSet.{FactSet}
 use Rattle.incr_review.specs.declared.facts.WalkFact.{WalkFact}
 use Rattle.incr_review.specs.declared.facts.WalkFact.TheVariants.{Ends, Visits}
 use Rattle.incr_review.specs.declared.parts.Part.{Part}
 use Rattle.incr_review.specs.declared.walked.WalkedPart.{WalkedPart}
-use Rattle.incr_review.specs.Facts.{HasFact, AreFactsBelow, facts_of, fact_of_end, fact_of_visitor}
+use Rattle.incr_review.specs.Facts.{HasFact, AreFactsBelow, StandOnce, facts_of, fact_of_end, fact_of_visitor}
 use Rattle.incr_review.specs.Parts.{ones, IsFilled, has_header, in_part, AreParts}
 use Rattle.incr_review.specs.Walked.{WalksSo, AreWalked, in_walked, outcome_in, device_in, outcomes_of, HaveOutcomes, IsLabelled, AreLabelled}
+use Rattle.incr_review.proofs.ListLemmas.{get_cases, get_map, zip_at}
+use Rattle.incr_review.proofs.FactLemmas.{fact_kept}
 use Rattle.incr_review.proofs.PartLemmas.{empty_set}
 
 -- ---- how many have a header
@@ -52,17 +52,6 @@ pub some_there : (o : Option ℕ) → 1 ≤ ones o → IsSome o
 some_there None l = absurd (omega (arith, l))
 some_there (Some v) l = refl
 
-pub zip_more : {A B : Type 0} (R : A → B → Type 0) (xs : List A) (ys : List B) (x : A) (y : B) → AllZip R xs ys → R x y → AllZip R (xs ++ x ∷ []) (ys ++ y ∷ [])
-zip_more R [] [] x y a r = (r, tt)
-zip_more R [] (z ∷ ys) x y a r = absurd a
-zip_more R (z ∷ xs) [] x y a r = absurd a
-zip_more R (z ∷ xs) (v ∷ ys) x y a r = (a.0, zip_more R xs ys x y a.1 r)
-
-pub labelled_more : (parts : List Part) (i : ℕ) (q : Part) (all : List WalkedPart) (x : WalkedPart) → i < length parts → q ≡ get_or parts i q → AreLabelled (take i parts) all → IsLabelled q x → AreLabelled (take (i + 1) parts) (all ++ x ∷ [])
-labelled_more parts i q all x l e a r =
-    let taken : take (i + 1) parts ≡ take i parts ++ q ∷ [] = take_more parts i q l ∙ ap (λ z. take i parts ++ z ∷ []) (sym e) in
-    subst (λ ps. AreLabelled ps (all ++ x ∷ [])) (sym taken) (zip_more IsLabelled (take i parts) all q x a r)
-
 -- ---- facts of walks
 pub walk_facts_below : (f : Functions) (ends : List OutcomeSet) (visitors : List DeviceVisitors) → AreEndsBelow f ends → AreVisitorsBelow f visitors → AreFactsBelow f (facts_of ends visitors)
 walk_facts_below f ends visitors b c x m = elim (Contains-append_cases (map fact_of_end ends) (map fact_of_visitor visitors) x m) [
@@ -75,6 +64,33 @@ ends_same a b e = cc
 
 visits_same : (a b : ℕ) → Visits a ≡ Visits b → a ≡ b
 visits_same a b e = cc
+
+-- each fact of a walk stands once
+same_fact : (ends : List OutcomeSet) (visitors : List DeviceVisitors) → AreOnce ends → StandApart visitors → (i j : ℕ) (x y : FactSet) → x.fact ≡ y.fact → (slice_get (map fact_of_end ends) i ≡ Some x) ⊎ ((k : ℕ) × (i ≡ length (map fact_of_end ends) + k) × (slice_get (map fact_of_visitor visitors) k ≡ Some x)) → (slice_get (map fact_of_end ends) j ≡ Some y) ⊎ ((k : ℕ) × (j ≡ length (map fact_of_end ends) + k) × (slice_get (map fact_of_visitor visitors) k ≡ Some y)) → i ≡ j
+same_fact ends visitors a b i j x y e (inl p) (inl q) =
+    let u = get_map fact_of_end ends i x p in
+    let v = get_map fact_of_end ends j y q in
+    a.once i j u.0 v.0 u.1 v.1 (ends_same u.0.outcome v.0.outcome (ap (λ (z : FactSet). z.fact) u.2 ∙ e ∙ ap (λ (z : FactSet). z.fact) (sym v.2)))
+same_fact ends visitors a b i j x y e (inl p) (inr q) =
+    let u = get_map fact_of_end ends i x p in
+    let v = get_map fact_of_visitor visitors q.0 y q.2 in
+    let no : Ends u.0.outcome ≡ Visits v.0.device = ap (λ (z : FactSet). z.fact) u.2 ∙ e ∙ ap (λ (z : FactSet). z.fact) (sym v.2) in
+    absurd cc
+same_fact ends visitors a b i j x y e (inr p) (inl q) =
+    let u = get_map fact_of_visitor visitors p.0 x p.2 in
+    let v = get_map fact_of_end ends j y q in
+    let no : Visits u.0.device ≡ Ends v.0.outcome = ap (λ (z : FactSet). z.fact) u.2 ∙ e ∙ ap (λ (z : FactSet). z.fact) (sym v.2) in
+    absurd cc
+same_fact ends visitors a b i j x y e (inr p) (inr q) =
+    let u = get_map fact_of_visitor visitors p.0 x p.2 in
+    let v = get_map fact_of_visitor visitors q.0 y q.2 in
+    let s = b.once p.0 q.0 u.0 v.0 u.1 v.1 (visits_same u.0.device v.0.device (ap (λ (z : FactSet). z.fact) u.2 ∙ e ∙ ap (λ (z : FactSet). z.fact) (sym v.2))) in
+    let m = p.1 in
+    let n = q.1 in
+    omega (arith, s, m, n)
+
+pub walk_facts_once : (ends : List OutcomeSet) (visitors : List DeviceVisitors) → AreOnce ends → StandApart visitors → StandOnce (facts_of ends visitors)
+walk_facts_once ends visitors a b = record { once = λ i j x y p q e. same_fact ends visitors a b i j x y e (get_cases (map fact_of_end ends) (map fact_of_visitor visitors) i x p) (get_cases (map fact_of_end ends) (map fact_of_visitor visitors) j y q) }
 
 fact_ends : (f : Functions) (ends : List OutcomeSet) (visitors : List DeviceVisitors) (h : Header) (o : Outcome) → HasFact f (facts_of ends visitors) h (Ends o) ↔ HasOutcome f ends h o
 fact_ends f ends visitors h o = (
@@ -114,12 +130,6 @@ fact_visits f ends visitors h n = (
   },
 )
 
-fact_kept : (f g : Functions) (facts : List FactSet) (h : Header) (x : WalkFact) → Keeps f g → AreFactsBelow f facts → HasFact g facts h x ↔ HasFact f facts h x
-fact_kept f g facts h x k b = (
-  λ y. record { of = y.of; among = y.among; inside = (kept_set f g y.of.headers h k (b y.of y.among)).0 y.inside; is = y.is },
-  λ y. record { of = y.of; among = y.among; inside = (kept_set f g y.of.headers h k (b y.of y.among)).1 y.inside; is = y.is },
-)
-
 in_outcomes : (facts : List WalkFact) (o : Outcome) → Contains (filter_map outcome_in facts) o ↔ Contains facts (Ends o)
 in_outcomes facts o = (
   λ c. (let i = in_filter_map outcome_in facts o c in subst (Contains facts) (is_ends i.0 i.2) i.1),
@@ -139,6 +149,22 @@ in_devices facts d = (
     is_visits : (x : WalkFact) → device_in x ≡ Some d → x ≡ Visits d
     is_visits (Visits u) e = ap Visits (let s : Some u ≡ Some d = e in let q : u ≡ d = cc in q)
     is_visits (Ends o) e = (let s : None ≡ Some d = e in absurd cc)
+
+-- ---- parts that say the same
+in_order_has_it : (xs : List Outcome) (o : Outcome) → Contains (in_order outcome_cmp xs) o ↔ Contains xs o
+in_order_has_it xs o = (
+  λ c. Contains_from_has outcome_cmp total exact o xs (sym (in_order_has outcome_cmp total exact o xs) ∙ has_from_Contains outcome_cmp total exact o (in_order outcome_cmp xs) c),
+  λ c. Contains_from_has outcome_cmp total exact o (in_order outcome_cmp xs) (in_order_has outcome_cmp total exact o xs ∙ has_from_Contains outcome_cmp total exact o xs c),
+)
+
+-- a fact of the one part is one of the other
+alike : (q r : Part) (x y : WalkedPart) → IsLabelled q x → IsLabelled r y → x.label ≡ y.label → x.devices ≡ y.devices → (f : WalkFact) → Contains q.facts.items f → Contains r.facts.items f
+alike q r x y a b l d (Ends o) c =
+    let same : in_order outcome_cmp (outcomes_of q) ≡ in_order outcome_cmp (outcomes_of r) = sym a.label_is ∙ l ∙ b.label_is in
+    (in_outcomes r.facts.items o).0 ((in_order_has_it (outcomes_of r) o).0 (subst (λ os. Contains os o) same ((in_order_has_it (outcomes_of q) o).1 ((in_outcomes q.facts.items o).1 c))))
+alike q r x y a b l d (Visits n) c =
+    let same : filter_map device_in q.facts.items ≡ filter_map device_in r.facts.items = sym a.devices ∙ d ∙ b.devices in
+    (in_devices r.facts.items n).0 (subst (λ ds. Contains ds n) same ((in_devices q.facts.items n).1 c))
 
 -- ---- one walk
 module _ (w : World) (t : ℕ) (p : Place) (f0 f g : Functions) (domain : ℕ)
@@ -238,4 +264,8 @@ parts_walked w t p f0 f g domain ends visitors parts all least k0 k ld labels vi
       right = λ x h c v i.
           let s = source parts all x a c in
           walks_so w t p f0 f g domain ends visitors parts least k0 k ld labels visits cut s.part x h s.among s.is v (subst (λ n. InSet g n h) s.is.headers i);
+      apart = λ i j x y ei ej l d.
+          let q = zip_at IsLabelled parts all i x a ei in
+          let r = zip_at IsLabelled parts all j y a ej in
+          cut.apart i j q.0 r.0 q.1 r.1 (λ f. (alike q.0 r.0 x y q.2 r.2 l d f, alike r.0 q.0 y x r.2 q.2 (sym l) (sym d) f));
     }

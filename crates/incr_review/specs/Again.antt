@@ -37,7 +37,8 @@ old_or (Some old) new = old
 abbrev pub as_region : Walking → WalkedPart → Region
 as_region walking q = record { slot = walking.slot; headers = q.headers; old = old_or (option_copied walking.old) q.label; new = q.label; devices = q.devices }
 
--- the regions of the headers of a set at an ingress: each of the headers is in one, and no other header
+-- the regions of the headers of a set at an ingress: each of the headers is in one, and no other header; no two have the same new
+-- label and the same devices
 pub record AreRegionsOf (w : World) (t : ℕ) (ingress : List Place) (slot : ℕ) (old : Option (List Outcome)) (fs : Functions) (set : ℕ) (regions : List Region) : Type 0 where
   pub below : (r : Region) → Contains regions r → r.headers < count_of fs
   pub slot_is : (r : Region) → Contains regions r → r.slot ≡ slot
@@ -46,6 +47,7 @@ pub record AreRegionsOf (w : World) (t : ℕ) (ingress : List Place) (slot : ℕ
   pub other : (s : ℕ) (h : Header) → (s ≡ slot → ⊥) → count_by (in_region fs s h) regions ≡ 0
   pub old_is : (r : Region) → Contains regions r → r.old ≡ old_or old r.new
   pub right : (r : Region) (p : Place) (h : Header) → Contains regions r → slice_get ingress slot ≡ Some p → IsHeader h → InSet fs r.headers h → InSet fs set h × WalksSo w t p h r.new r.devices
+  pub apart : (i j : ℕ) (q r : Region) → slice_get regions i ≡ Some q → slice_get regions j ≡ Some r → q.new ≡ r.new → q.devices ≡ r.devices → i ≡ j
 
 pub record AddsRegions (walk : Walk) (walking : Walking) (fs : Functions) (before after : List Region) : Type 0 where
   pub more : List Region

@@ -1,5 +1,5 @@
 -- What walks tell of headers.
-use Rattle.std.specs.Prelude.{◌≡◌, ◌<◌, List, ◌++◌, Contains, map}
+use Rattle.std.specs.Prelude.{ℕ, ◌≡◌, ◌<◌, List, ◌++◌, Some, Contains, map, slice_get}
 use Rattle.hdr_bits.specs.declared.header.Header.{Header}
 use Rattle.cube_diagram.specs.Functions.{Functions, count_of}
 use Rattle.set_walk.specs.declared.ends.OutcomeSet.{OutcomeSet}
@@ -27,3 +27,7 @@ pub record HasFact (fs : Functions) (facts : List FactSet) (h : Header) (x : Wal
 
 abbrev pub AreFactsBelow : Functions → List FactSet → Type 0
 AreFactsBelow fs facts = (x : FactSet) → Contains facts x → x.headers < count_of fs
+
+-- each fact stands once
+pub record StandOnce (facts : List FactSet) : Type 0 where
+  pub once : (i j : ℕ) (x y : FactSet) → slice_get facts i ≡ Some x → slice_get facts j ≡ Some y → x.fact ≡ y.fact → i ≡ j

@@ -2,6 +2,7 @@ pub mod Same
 pub mod Edited
 pub mod Entries
 pub mod Facts
+pub mod FactNumbers
 pub mod Parts
 pub mod Walked
 pub mod Regions

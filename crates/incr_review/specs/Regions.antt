@@ -38,6 +38,10 @@ pub record AreReviewed (old new : World) (t : ℕ) (ingress : List Place) (fs : 
   pub right : AreRight old new t ingress fs regions
   pub one : (slot : ℕ) (h : Header) → slot < length ingress → IsHeader h → count_by (in_region fs slot h) regions ≡ 1
 
+-- no two regions of one ingress say the same of their headers
+pub record StandApart (regions : List Region) : Type 0 where
+  pub apart : (i j : ℕ) (q r : Region) → slice_get regions i ≡ Some q → slice_get regions j ≡ Some r → q.slot ≡ r.slot → q.old ≡ r.old → q.new ≡ r.new → q.devices ≡ r.devices → i ≡ j
+
 -- the list goes on behind these
 pub record StartsWith (front all : List Region) : Type 0 where
   pub rest : List Region

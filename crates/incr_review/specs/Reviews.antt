@@ -3,6 +3,7 @@ use Rattle.std.specs.Prelude.{ℕ, ◌≡◌, ◌≤◌, List, length}
 use Rattle.std.specs.List.{sum_by}
 use Rattle.cube_diagram.specs.Functions.{Functions}
 use Rattle.net_types.specs.declared.network.Network.{Network}
+use Rattle.net_types.specs.declared.network.Place.{Place}
 use Rattle.net_types.specs.declared.network.Section.{Section}
 use Rattle.net_types.specs.World.{World}
 use Rattle.net_types.specs.Report.{IsReport}
@@ -30,7 +31,13 @@ pub record IsReview (r : ReviewState) : Type 0 where
 abbrev pub row_total : List Section → ℕ
 row_total sections = sum_by (λ s. length s.rows) sections
 
--- the report has so many rows
+-- the report on two worlds has so many rows
+pub record HasRowsOf (ingress : List Place) (old new : World) (t count : ℕ) : Type 0 where
+  pub sections : List Section
+  pub report : IsReport ingress old new t sections
+  pub count_is : count ≡ row_total sections
+
+-- so has that of the review
 pub record HasRows (r : ReviewState) (count : ℕ) : Type 0 where
   pub sections : List Section
   pub report : IsReport r.baseline.links.ingress r.baseline (edited_world r) r.ttl sections

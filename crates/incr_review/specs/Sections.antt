@@ -6,7 +6,7 @@ use Rattle.cube_diagram.specs.Combined.{if_both}
 use Rattle.cube_diagram.specs.Functions.{Functions, count_of, value_at}
 use Rattle.net_types.specs.Report.{labels_if_other}
 use Rattle.pair_rows.specs.declared.function.PairFunction.{PairFunction}
-use Rattle.pair_rows.specs.Pairs.{Pair}
+use Rattle.pair_rows.specs.Pairs.{AreDistinct, Pair}
 use Rattle.incr_review.specs.declared.regions.Region.{Region}
 
 abbrev pub AreBelow : Functions → List Region → Type 0
@@ -24,10 +24,12 @@ pub record HasPair (fs : Functions) (slot : ℕ) (regions : List Region) (h : �
   pub inside : IsSome (value_at fs region.headers h)
   pub is : pair ≡ pair_of region
 
--- a number stands for the pair of a region that has the header; where there is none, the labels of each such region are equal
+-- a number stands for the pair of a region that has the header; where there is none, the labels of each such region are equal; no
+-- pair has two numbers
 pub record ArePairsOf (fs : Functions) (slot : ℕ) (regions : List Region) (given : PairFunction) : Type 0 where
   pub number : (h n : ℕ) → h < 2 ^ 112 → value_at given.table given.function h ≡ Some n → HasPair fs slot regions h (slice_get given.pairs n) × IsSome (slice_get given.pairs n)
   pub none : (h : ℕ) (r : Region) → h < 2 ^ 112 → value_at given.table given.function h ≡ None → Contains regions r → r.slot ≡ slot → IsSome (value_at fs r.headers h) → pair_of r ≡ None
+  pub distinct : AreDistinct given.pairs
 
 -- the headers of the set that have no number have this one
 abbrev pub IsNumbered : Functions → ℕ → ℕ → ℕ → Functions → ℕ → Type 0
@@ -38,6 +40,7 @@ pub record NumbersPair (fs : Functions) (r : Region) (old new : PairFunction) : 
   pub index : ℕ
   pub there : slice_get new.pairs index ≡ Some (r.old, r.new)
   pub extends : Extends old.pairs new.pairs
+  pub distinct : AreDistinct new.pairs
   pub exact : (h : ℕ) → value_at new.table new.function h ≡ option_or (value_at old.table old.function h) (if_both (Some index) (value_at fs r.headers h))
 
 -- so it is, where the labels differ; else nothing is changed

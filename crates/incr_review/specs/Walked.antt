@@ -1,5 +1,5 @@
 -- Sets of headers with their labels and the devices that they visit.
-use Rattle.std.specs.Prelude.{ℕ, ◌≡◌, ◌≢◌, ◌<◌, ◌↔◌, Bool, List, [], Option, Some, None, Contains, count_by, filter_map}
+use Rattle.std.specs.Prelude.{ℕ, ◌≡◌, ◌≢◌, ◌<◌, ◌↔◌, Bool, List, [], Option, Some, None, Contains, count_by, filter_map, slice_get}
 use Rattle.std.specs.List.{AllZip}
 use Rattle.hdr_bits.specs.declared.header.Header.{Header}
 use Rattle.hdr_bits.specs.HeaderBits.{number, IsHeader}
@@ -25,12 +25,14 @@ pub record WalksSo (w : World) (t : ℕ) (p : Place) (h : Header) (outcomes : Li
 abbrev pub in_walked : Functions → Header → WalkedPart → Bool
 in_walked fs h q = has_header fs q.headers h
 
--- each header of the domain is in one part, and no other header is in one; all headers of a part walk as it says
+-- each header of the domain is in one part, and no other header is in one; all headers of a part walk as it says, and no two
+-- parts say the same
 pub record AreWalked (w : World) (t : ℕ) (p : Place) (fs : Functions) (domain : ℕ) (parts : List WalkedPart) : Type 0 where
   pub below : (q : WalkedPart) → Contains parts q → q.headers < count_of fs
   pub some : (q : WalkedPart) → Contains parts q → IsFilled fs q.headers
   pub one : (h : Header) → IsHeader h → count_by (in_walked fs h) parts ≡ ones (value_at fs domain (number h))
   pub right : (q : WalkedPart) (h : Header) → Contains parts q → IsHeader h → InSet fs q.headers h → WalksSo w t p h q.label q.devices
+  pub apart : (i j : ℕ) (q r : WalkedPart) → slice_get parts i ≡ Some q → slice_get parts j ≡ Some r → q.label ≡ r.label → q.devices ≡ r.devices → i ≡ j
 
 -- ---- by facts
 

@@ -13,6 +13,7 @@ mod entries;
 mod facts;
 mod groups;
 pub mod laws;
+mod numbers;
 mod parts;
 mod regions;
 mod review;
@@ -20,6 +21,7 @@ mod routes;
 mod rules;
 mod same;
 mod sections;
+mod set_numbers;
 mod walked;
 mod walks;
 

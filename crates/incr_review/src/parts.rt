@@ -1,14 +1,16 @@
-//! Sets of headers cut by what walks tell of their headers.
+//! The headers of a set, in parts by what walks tell of them.
 
-ghost use Rattle.std.specs.Prelude.{◌≡◌, ◌<◌, [], ◌∷◌, IfOk, OnOk};
+ghost use Rattle.std.specs.Prelude.{◌≡◌, ◌<◌, IfOk, OnOk};
+ghost use Rattle.std.specs.List.{AllZip};
 ghost use Rattle.cube_diagram.specs.Functions.{Keeps, count_of};
-ghost use Rattle.incr_review.specs.Facts.{AreFactsBelow};
-ghost use Rattle.incr_review.specs.Parts.{AddsPart, AreCut, ArePartsBelow, AreParts, CutsPart, with_fact};
+ghost use Rattle.incr_review.specs.Facts.{AreFactsBelow, StandOnce};
+ghost use Rattle.incr_review.specs.Parts.{AddsPart, AreParts, IsPartBy};
 
 use crate::facts::{FactSet, WalkFact};
-use cube_diagram::Diagrams;
+use crate::numbers::{FactList, add_facts_at, fact_numbers};
+use cube_diagram::{Diagrams, ValueSet};
 use net_types::NoMemory;
-use set_walk::sets::{both, without};
+use set_walk::sets::without;
 use std::alloc::Global;
 
 /// Headers of which the same facts hold.
@@ -19,8 +21,8 @@ pub(crate) struct Part {
     pub(crate) facts: Vec<WalkFact>,
 }
 
-/// The parts of a set of headers, cut by facts: each header of the set is in one part, which has exactly the facts that hold of
-/// it.
+/// The parts of a set of headers by facts, each of which stands once: each header of the set is in one part, which has exactly the
+/// facts that hold of it, and no two parts have the same facts.
 pub(crate) fn parts_by(
     alloc: Global,
     table: &mut Diagrams,
@@ -29,79 +31,44 @@ pub(crate) fn parts_by(
 ) -> Result<Vec<Part>, NoMemory>
     requires domain { domain < count_of table.old }
     requires facts { AreFactsBelow table.old facts.now }
+    requires once { StandOnce facts.now }
     ensures parts { IfOk result (λ r. AreParts table.new domain facts.now r.items) }
     ensures kept { Keeps table.old table.new }
 {
-    let mut parts = whole(alloc, table, domain)?;
-    for fact in facts {
-        parts = cut(alloc, table, &parts, *fact)?;
-    }
+    let numbers = fact_numbers(alloc, table, facts)?;
+    let sets = table.sets_by_value(alloc, numbers.function, domain)?;
+    let rest = without(table, domain, numbers.function)?;
+    let mut parts = numbered_parts(alloc, &numbers.lists, &sets)?;
+    // No fact holds of these.
+    add_part(table, rest, Vec::new(alloc), &mut parts)?;
     Ok(parts)
 }
 
-// All headers of the set as one part, if there are some.
-fn whole(alloc: Global, table: &Diagrams, domain: u32) -> Result<Vec<Part>, NoMemory>
-    requires { domain < count_of table.now }
-    ensures { IfOk result (λ r. AreParts table.now domain [] r.items) }
+// The headers of each number, with its facts.
+fn numbered_parts(
+    alloc: Global,
+    lists: &[FactList],
+    sets: &[ValueSet],
+) -> Result<Vec<Part>, NoMemory>
+    ensures { IfOk result (λ r. AllZip (IsPartBy lists.now) sets.now r.items) }
 {
     let mut parts = Vec::new(alloc);
-    add_part(table, domain, Vec::new(alloc), &mut parts)?;
+    for one in sets {
+        let part = part_by(alloc, lists, *one)?;
+        parts.push(part)?;
+    }
     Ok(parts)
 }
 
-// Each part is cut in two, by whether the fact holds.
-fn cut(
-    alloc: Global,
-    table: &mut Diagrams,
-    parts: &[Part],
-    fact: FactSet,
-) -> Result<Vec<Part>, NoMemory>
-    requires parts { ArePartsBelow table.old parts.now }
-    requires fact { fact.headers < count_of table.old }
-    ensures cut { IfOk result (λ r. AreCut table.old fact parts.now table.new r.items) }
-    ensures kept { Keeps table.old table.new }
+fn part_by(alloc: Global, lists: &[FactList], one: ValueSet) -> Result<Part, NoMemory>
+    ensures { IfOk result (IsPartBy lists.now one) }
 {
-    let mut halves = Vec::new(alloc);
-    for part in parts {
-        cut_part(alloc, table, part, fact, &mut halves)?;
-    }
-    Ok(halves)
-}
-
-fn cut_part(
-    alloc: Global,
-    table: &mut Diagrams,
-    part: &Part,
-    fact: FactSet,
-    halves: &mut Vec<Part>,
-) -> Result<(), NoMemory>
-    requires part { part.now.headers < count_of table.old }
-    requires fact { fact.headers < count_of table.old }
-    ensures cut { OnOk result (CutsPart table.old fact part.now table.new halves.old.items halves.new.items) }
-    ensures kept { Keeps table.old table.new }
-{
-    let inside = both(table, part.headers, fact.headers)?;
-    let outside = without(table, part.headers, fact.headers)?;
-    let more = with_fact(alloc, &part.facts, fact.fact)?;
-    add_part(table, inside, more, halves)?;
-    let same = same_facts(alloc, &part.facts)?;
-    add_part(table, outside, same, halves)?;
-    Ok(())
-}
-
-fn with_fact(alloc: Global, facts: &[WalkFact], fact: WalkFact) -> Result<Vec<WalkFact>, NoMemory>
-    ensures { IfOk result (λ r. r.items ≡ with_fact fact facts.now) }
-{
-    let mut more = facts.to_vec(alloc)?;
-    more.push(fact)?;
-    Ok(more)
-}
-
-fn same_facts(alloc: Global, facts: &[WalkFact]) -> Result<Vec<WalkFact>, NoMemory>
-    ensures { IfOk result (λ r. r.items ≡ facts.now) }
-{
-    let copy = facts.to_vec(alloc)?;
-    Ok(copy)
+    let mut facts = Vec::new(alloc);
+    add_facts_at(lists, one.value as usize, &mut facts)?;
+    Ok(Part {
+        headers: one.set,
+        facts,
+    })
 }
 
 // Adds these headers as a part, if there are some.

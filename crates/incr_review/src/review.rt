@@ -5,7 +5,7 @@ ghost use Rattle.std.specs.Prelude.{◌≡◌, ◌≤◌, ◌<◌, ◌^◌, leng
 use crate::edited::{edited_device, edited_network, put_device};
 use crate::edits::{Edit, EditFail};
 use crate::regions::{Region, Touched, touched_by};
-use crate::sections::{row_total, sections_of};
+use crate::sections::{rows_of_sections, sections_of};
 use crate::walks::{Leaving, opened, regions_after};
 use cube_diagram::Diagrams;
 use net_types::{Duplicate, Links, Network, NoMemory, Section};
@@ -45,7 +45,7 @@ impl<'a> Review<'a> {
     ghost use Rattle.std.specs.Prelude.{◌+◌, Ok, IfOk, OnOk, IfErr, OnErr, filter};
     ghost use Rattle.cube_diagram.specs.Functions.{Keeps};
     ghost use Rattle.incr_review.specs.Edited.{IsFailOf, device_of, edited};
-    ghost use Rattle.incr_review.specs.Regions.{stays, StartsWith};
+    ghost use Rattle.incr_review.specs.Regions.{stays, StandApart, StartsWith};
     ghost use Rattle.incr_review.specs.Reviews.{HasRows, IsReview, edited_world};
     ghost use Rattle.net_types.specs.Report.{IsReport};
 
@@ -64,6 +64,9 @@ impl<'a> Review<'a> {
         ensures edited { IfOk result (λ r. r.edited ≡ old.now) }
         ensures ttl { IfOk result (λ r. r.ttl ≡ ttl) }
         ensures reviewed { IfOk result IsReview }
+
+        // Headers of one ingress that walk alike are one region.
+        ensures apart { IfOk result (λ r. StandApart r.regions) }
     {
         let world = WorldRef {
             network: old,
@@ -137,14 +140,14 @@ impl<'a> Review<'a> {
         Ok(sections)
     }
 
-    /// How many rows the report has.
+    /// How many rows the report has, in steps that go with its diagrams and not with its rows.
     ///
-    /// It answers `NoMemory` only where there was none.
+    /// It answers `NoMemory` only where there was none, or where 64 bits don't hold the number.
     pub fn affected(&self, alloc: Global) -> Result<u64, NoMemory>
         ensures rows { IfOk result (HasRows self.now) }
     {
-        let sections = self.sections(alloc)?;
-        let count = row_total(&sections)?;
+        let ingress = self.baseline.links.ingress.as_slice();
+        let count = rows_of_sections(alloc, &self.table, &self.regions, ingress)?;
         Ok(count)
     }
 }

@@ -1,17 +1,16 @@
 //! From the regions of a review to the report.
 
-ghost use Rattle.std.specs.Prelude.{◌≡◌, ◌<◌, ℕ, [], IfOk, OnOk};
-ghost use Rattle.hdr_bits.specs.CubeBits.{IsIn};
+ghost use Rattle.std.specs.Prelude.{◌≡◌, ◌<◌, ◌+◌, ℕ, [], IfOk, OnOk};
 ghost use Rattle.cube_diagram.specs.Functions.{Functions, Keeps, count_of};
 ghost use Rattle.net_types.specs.World.{World};
 ghost use Rattle.net_types.specs.Report.{IsReport};
 ghost use Rattle.incr_review.specs.Regions.{AreReviewed};
-ghost use Rattle.incr_review.specs.Reviews.{row_total};
+ghost use Rattle.incr_review.specs.Reviews.{HasRowsOf};
 ghost use Rattle.incr_review.specs.Sections.{AddsPair, AreBelow, ArePairsOf, IsNumbered};
 
 use crate::regions::Region;
+use crate::set_numbers::on_set;
 use cube_diagram::Diagrams;
-use hdr_bits::Cube;
 use indexmap::IndexMap;
 use net_types::{List, NoMemory, Place, Row, Section};
 use pair_rows::{LabelPairs, PairFunction, rows_of_function};
@@ -39,19 +38,35 @@ pub(crate) fn sections_of(
     Ok(sections)
 }
 
-/// How many rows the sections have. Where 64 bits don't hold it there is no memory for so many.
-pub(crate) fn row_total(sections: &[Section]) -> Result<u64, NoMemory>
-    ensures { IfOk result (λ count. count ≡ row_total sections.now) }
+/// How many rows the sections of the ingresses have. They are counted by the diagrams of their functions, and not listed. There is
+/// no number where 64 bits don't hold it.
+pub(crate) fn rows_of_sections(
+    alloc: Global,
+    table: &Diagrams,
+    regions: &[Region],
+    ingress: &[Place],
+) -> Result<u64, NoMemory>
+    requires { AreBelow table.now regions.now }
+    ensures { IfOk result (λ n. (old new : World) (t : ℕ) → AreReviewed old new t ingress.now table.now regions.now → HasRowsOf ingress.now old new t n) }
 {
     let mut count = 0;
-    for section in sections {
-        let rows = section.rows.as_slice().len() as u64;
-        let Some(more) = u64::checked_add(count, rows) else {
-            return Err(NoMemory);
-        };
-        count = more;
+    for slot in 0..ingress.len() {
+        let given = pairs_of(alloc, table, regions, slot)?;
+        let rows = given.table.row_count(alloc, given.function)?;
+        count = sum(count, rows)?;
     }
     Ok(count)
+}
+
+// The sum, where 64 bits hold it.
+fn sum(count: u64, rows: u128) -> Result<u64, NoMemory>
+    ensures { IfOk result (λ n. n ≡ count + rows) }
+{
+    let rows = u64::try_from(rows).map_err(|_| NoMemory)?;
+    let Some(sum) = u64::checked_add(count, rows) else {
+        return Err(NoMemory);
+    };
+    Ok(sum)
 }
 
 // The pairs of the headers at one ingress whose two labels differ.
@@ -115,17 +130,9 @@ fn numbered(table: &mut Diagrams, function: u32, set: u32, number: u32) -> Resul
     ensures exact { IfOk result (IsNumbered table.old function set number table.new) }
     ensures kept { Keeps table.old table.new }
 {
-    let everywhere = table.add_entry(&[all_headers()], number)?;
-    let inside = table.within(everywhere, set)?;
+    let inside = on_set(table, set, number)?;
     let whole = table.first_of(&[function, inside])?;
     Ok(whole)
-}
-
-// The cube of all headers.
-fn all_headers() -> Cube
-    ensures { (h : ℕ) → IsIn result h }
-{
-    Cube { fixed: 0, bits: 0 }
 }
 
 // The same number in 32 bits: where they don't hold it there is no memory for a table of so many.

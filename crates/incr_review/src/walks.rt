@@ -11,7 +11,7 @@ ghost use Rattle.place_ways.specs.Places.{ArePlaceWays};
 ghost use Rattle.incr_review.specs.Again.{AddsAgain, ArePlaced, IsWalkIn, leaves};
 ghost use Rattle.incr_review.specs.Groups.{IsDisjoint};
 ghost use Rattle.incr_review.specs.Opened.{AreOpened};
-ghost use Rattle.incr_review.specs.Regions.{AreReviewed, stays};
+ghost use Rattle.incr_review.specs.Regions.{AreReviewed, StandApart, stays};
 
 use crate::groups::{add_groups, leaving_groups};
 use crate::regions::{Region, Walk, Walking, add_regions, kept_regions};
@@ -50,7 +50,8 @@ struct AllWays {
 pub(crate) fn opened(alloc: Global, world: WorldRef, ttl: u8) -> Result<RegionTable, NoMemory>
     requires least { 1 ≤ ttl }
     requires few { length world.links.now.ingress < 2 ^ 32 }
-    ensures { IfOk result (λ r. AreReviewed (world_of world.entry) (world_of world.entry) ttl world.entry.links.now.ingress r.table r.regions.items) }
+    ensures reviewed { IfOk result (λ r. AreReviewed (world_of world.entry) (world_of world.entry) ttl world.entry.links.now.ingress r.table r.regions.items) }
+    ensures apart { IfOk result (λ r. StandApart r.regions.items) }
 {
     let empty = Diagrams::new(alloc)?;
     let AllWays {

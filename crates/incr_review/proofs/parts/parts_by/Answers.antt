@@ -1,28 +1,23 @@
-use Rattle.std.proofs.Common.{subst, sym, List, get_or}
-use Rattle.std.proofs.lemmas.List.Elements.{Contains-get_or}
-use Rattle.set_walk.proofs.SetLemmas.{keeps_then, kept_below}
-use Rattle.incr_review.specs.declared.facts.FactSet.{FactSet}
-use Rattle.incr_review.specs.declared.facts.WalkFact.TheVariants as fact
-use Rattle.net_types.specs.declared.label.Outcome.TheVariants as outcome
-use Rattle.incr_review.specs.declared.parts.Part.{Part}
-use Rattle.incr_review.specs.Parts.{ArePartsBelow, AreCut}
-use Rattle.incr_review.proofs.PartLemmas.{parts_more}
+use Rattle.std.proofs.Common.{subst, List}
+use Rattle.std.specs.List.{AllZip}
+use Rattle.cube_diagram.specs.declared.value_sets.ValueSet.{ValueSet}
+use Rattle.incr_review.specs.declared.facts.WalkFact.{WalkFact}
+use Rattle.incr_review.specs.declared.numbers.FactList.{FactList}
+use Rattle.incr_review.specs.Parts.{AddsPart, IsPartBy}
+use Rattle.incr_review.proofs.FactLemmas.{facts_kept}
+use Rattle.incr_review.proofs.PartLemmas.{parts_numbered}
 use Rattle.incr_review.proofs.parts.parts_by.Goals as goal
 
-pub cut-requires-clause-parts : goal.cut-requires-clause-parts
-cut-requires-clause-parts c = subst (λ (ps : List Part). ArePartsBelow c.loop-fact.table ps) (sym c.deref.ensures.value) c.loop-fact.invariant.parts.below
-
-pub cut-requires-clause-fact : goal.cut-requires-clause-fact
-cut-requires-clause-fact c =
-    kept_below c.args.table.now c.loop-fact.table _ c.loop-fact.invariant.kept (c.requires.facts _ (Contains-get_or c.args.facts.now c.loop-fact.fact-index (record { fact = fact.Ends outcome.Dropped; headers = 0 }) c.loop-fact-test.true))
-
-pub loop-fact-preserved : goal.loop-fact-preserved
-loop-fact-preserved c =
-    let k = c.loop-fact.invariant.kept in
-    let j = c.in_ok-parts-2.ensures.kept in
-    let i = c.loop-fact.fact-index in
-    let d : FactSet = record { fact = fact.Ends outcome.Dropped; headers = 0 } in
-    record {
-      parts = parts_more c.args.table.now c.loop-fact.table c.cut.new.table c.args.domain c.args.facts.now i d c.loop-fact.parts.items c.in_ok-parts-2.parts.items c.loop-fact-test.true k j c.requires.domain c.requires.facts c.loop-fact.invariant.parts (subst (λ (ps : List Part). AreCut c.loop-fact.table (get_or c.args.facts.now i d) ps c.cut.new.table c.in_ok-parts-2.parts.items) c.deref.ensures.value c.in_ok-parts-2.ensures.cut);
-      kept = keeps_then c.args.table.now c.loop-fact.table c.cut.new.table k j;
-    }
+pub returns-clause-parts : goal.returns-clause-parts
+returns-clause-parts c =
+    let f0 = c.args.table.now in
+    let f1 = c.fact_numbers.new.table in
+    let f2 = c.sets_by_value.new.self in
+    let g = c.without.new.table in
+    let a = c.in_ok-numbers.numbers in
+    let sets = c.in_ok-sets.sets.items in
+    let parts = c.in_ok-parts.parts.items in
+    let rest = c.in_ok-rest.rest in
+    let zip : AllZip (IsPartBy a.lists.items) sets parts = subst (λ (ls : List FactList). AllZip (IsPartBy ls) sets parts) c.deref.ensures.value (subst (λ (ss : List ValueSet). AllZip (IsPartBy c.deref.result.now) ss parts) c.deref-2.ensures.value c.in_ok-parts.ensures) in
+    let last = subst (λ (fs : List WalkFact). AddsPart g rest fs parts c.add_part.new.parts.items) c.new.ensures.items c.in_ok-add_part.ensures in
+    parts_numbered f0 f1 f2 g c.args.domain c.args.facts.now a sets parts rest c.add_part.new.parts.items c.in_ok-numbers.ensures.kept c.in_ok-sets.ensures.kept c.in_ok-rest.ensures.kept c.requires.domain (facts_kept f0 f1 c.args.facts.now c.in_ok-numbers.ensures.kept c.requires.facts) c.in_ok-numbers.ensures.numbers c.in_ok-sets.ensures.sets zip c.in_ok-rest.ensures.below c.in_ok-rest.ensures.exact last

@@ -1,11 +1,12 @@
-use Rattle.std.proofs.Common.{subst, ◌∙◌, List}
+use Rattle.std.proofs.Common.{subst, sym, ◌∙◌, List}
 use Rattle.std.specs.Prelude.{Contains}
 use Rattle.net_view.specs.Borrowed.{world_of}
 use Rattle.incr_review.specs.declared.facts.FactSet.{FactSet}
 use Rattle.incr_review.specs.declared.parts.Part.{Part}
+use Rattle.incr_review.specs.Facts.{StandOnce}
 use Rattle.incr_review.specs.Parts.{AreParts}
 use Rattle.incr_review.specs.Walked.{AreLabelled}
-use Rattle.incr_review.proofs.WalkedLemmas.{walk_facts_below, have_outcomes, parts_walked}
+use Rattle.incr_review.proofs.WalkedLemmas.{walk_facts_below, walk_facts_once, have_outcomes, parts_walked}
 use Rattle.incr_review.proofs.walked.walked_parts.Goals as goal
 
 pub parts_by-requires-clause-facts : goal.parts_by-requires-clause-facts
@@ -13,6 +14,11 @@ parts_by-requires-clause-facts c κs within =
     let walked = c.in_ok-walked.walked in
     walk_facts_below c.labels_and_visitors.new.table walked.ends.items walked.visitors.items c.in_ok-walked.ensures.labels.below c.in_ok-walked.ensures.visitors.below κs
     (subst (λ (xs : List FactSet). Contains xs κs) (c.deref.ensures.value ∙ c.in_ok-facts.ensures) within)
+
+pub parts_by-requires-clause-once : goal.parts_by-requires-clause-once
+parts_by-requires-clause-once c =
+    let walked = c.in_ok-walked.walked in
+    subst StandOnce (sym (c.deref.ensures.value ∙ c.in_ok-facts.ensures)) (walk_facts_once walked.ends.items walked.visitors.items c.in_ok-walked.ensures.once c.in_ok-walked.ensures.apart)
 
 pub labelled-requires : goal.labelled-requires
 labelled-requires c κs within =

@@ -19,9 +19,12 @@ all_regions-requires-clause-walk c =
       least = c.requires.least;
     }
 
-pub returns : goal.returns
-returns c =
+pub returns-clause-reviewed : goal.returns-clause-reviewed
+returns-clause-reviewed c =
     let g = c.all_regions.new.table in
     let w = world_of c.args.world in
     opened_reviewed w c.args.ttl c.args.world.links.now.ingress g c.in_ok-regions.regions.items
     (subst (λ (ps : List Place). AreOpened w c.args.ttl ps g (length ps) c.in_ok-regions.regions.items) c.as_slice.ensures c.in_ok-regions.ensures)
+
+pub returns-clause-apart : goal.returns-clause-apart
+returns-clause-apart c = c.in_ok-regions.ensures.apart
