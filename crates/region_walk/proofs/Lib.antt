@@ -9,3 +9,4 @@ pub mod LoopLemmas
 pub mod SpotEquality
 pub mod ReturnLemmas
 pub mod OutcomeLemmas
+pub mod DeviceLemmas

@@ -3,6 +3,7 @@ pub mod Steps
 pub mod Traces
 pub mod Spots
 pub mod Visits
+pub mod Devices
 pub mod Returns
 pub mod Seen
 pub mod Region

@@ -1,3 +1,4 @@
+use crate::devices::is_met;
 use crate::level::{Level, states_at};
 use crate::outcomes::{all_outcomes, some_is_at};
 use crate::returns::has_loop;
@@ -38,6 +39,7 @@ impl<'a> Graph<'a> {
     ghost use Rattle.hdr_bits.specs.CubeBits.{IsIn};
     ghost use Rattle.net_types.specs.Walks.{label};
     ghost use Rattle.net_types.specs.Questions.{Reaches, Loops};
+    ghost use Rattle.net_types.specs.Visits as visiting;
     ghost use Rattle.region_walk.specs.Visits.{IsGraph};
     ghost use Rattle.net_forms.specs.Worlds.{world_in};
 
@@ -95,5 +97,13 @@ impl<'a> Graph<'a> {
         }
         let found = has_loop(alloc, &self.visits, &self.levels, last)?;
         Ok(found)
+    }
+
+    /// Whether each header of the cube visits the device when it enters with this TTL: some walk of fewer moves comes to one of
+    /// its places; else none does. Under the TTL 0 none visits any.
+    pub fn visits(&self, ttl: u8, device: u32) -> bool
+        ensures { (h : Header) → IsHeader h → IsIn self.now.cube (number h) → IsTrue result ↔ visiting.Visits self.now.world ttl self.now.place h device }
+    {
+        is_met(&self.visits, &self.levels, ttl, device)
     }
 }

@@ -2,6 +2,7 @@
 //! of its headers take different entries on the way.
 #![tactic(auto)]
 
+mod devices;
 mod graph;
 mod level;
 mod outcomes;
