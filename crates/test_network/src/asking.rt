@@ -1,4 +1,4 @@
-//! Two networks with the ways of their places, and what is asked of them.
+//! A network with the ways of its places, and which devices headers visit in it, by walks of sets and by the second opinion.
 
 ghost use Rattle.std.specs.Prelude.{◌≡◌};
 ghost use Rattle.indexmap.specs.IndexMap.{get};
@@ -8,71 +8,34 @@ ghost use Rattle.net_view.specs.Borrowed.{world_of};
 ghost use Rattle.place_ways.specs.Places.{ArePlaceWays};
 ghost use Rattle.set_walk.specs.Nets.{IsNet};
 
+use crate::counting::{Counted, Opinion};
 use crate::networks::INGRESS;
-use crate::opinion::{Counted, Opinion};
 use cube_diagram::Diagrams;
-use difference_reach::Reach;
 use net_forms::{BothForms, Networks, PreparedParts, Tables};
-use net_types::{NoMemory, Place};
+use net_types::NoMemory;
 use net_view::WorldRef;
 use place_ways::{BothWays, ways_of_both};
-use set_walk::{Net, label_numbers};
+use set_walk::{Net, labels_and_visitors};
 use std::alloc::Global;
 use transfer_rel::Prepared;
 
-/// What is asked of two networks.
-#[derive(Clone, Copy)]
-pub(crate) enum Question {
-    /// Whether the ways of these places are the moves of the first network.
-    Ways { places: [Place; 4] },
-    /// Whether walks of sets find the labels of the first network under the TTL.
-    Labels { ttl: u8 },
-    /// Whether all headers that are said to meet no difference from the place on have one label in both.
-    Reach { place: Place },
-}
-
-/// Asks it of the networks in this order and in the other.
-pub(crate) fn ask_both(
+/// Asks it of the first of two networks, under the TTL.
+pub(crate) fn ask_visitors(
     alloc: Global,
-    question: Question,
-    old: WorldRef,
-    new: WorldRef,
+    networks: Networks,
+    ttl: u8,
 ) -> Result<Counted, NoMemory> {
-    let there = ask(alloc, question, old, new)?;
-    let back = ask(alloc, question, new, old)?;
-    Ok(there.with(&back))
-}
-
-fn ask(
-    alloc: Global,
-    question: Question,
-    old: WorldRef,
-    new: WorldRef,
-) -> Result<Counted, NoMemory> {
-    let prepared = Prepared::of(alloc, Networks { old, new })?;
+    let prepared = Prepared::of(alloc, networks)?;
     let opinion = Opinion {
         alloc,
         prepared: &prepared,
-        walked: old,
-        other: new,
+        ttl,
     };
-    ask_compiled(question, opinion)
+    let compiled = Prepared::of(alloc, networks)?;
+    ask_parts(opinion, compiled.into_parts())
 }
 
-fn ask_compiled(question: Question, opinion: Opinion) -> Result<Counted, NoMemory> {
-    let networks = Networks {
-        old: opinion.walked,
-        new: opinion.other,
-    };
-    let compiled = Prepared::of(opinion.alloc, networks)?;
-    ask_parts(question, opinion, compiled.into_parts())
-}
-
-fn ask_parts(
-    question: Question,
-    opinion: Opinion,
-    parts: PreparedParts,
-) -> Result<Counted, NoMemory>
+fn ask_parts(opinion: Opinion, parts: PreparedParts) -> Result<Counted, NoMemory>
     requires parts { ArePreparedParts (record { old = world_of parts.old.world; new = world_of parts.new.world }) parts }
 {
     let PreparedParts {
@@ -94,69 +57,31 @@ fn ask_parts(
         like: &like,
     };
     let ways = ways_of_both(opinion.alloc, forms, scope, &mut diagrams)?;
-    let networks = Networks {
-        old: old.world,
-        new: new.world,
-    };
-    let counted = ask_ways(question, opinion, &mut diagrams, networks, scope, &ways)?;
+    let counted = ask_ways(opinion, &mut diagrams, old.world, scope, &ways)?;
     Ok(counted)
 }
 
 fn ask_ways(
-    question: Question,
     opinion: Opinion,
     table: &mut Diagrams,
-    networks: Networks,
+    world: WorldRef,
     scope: u32,
     ways: &BothWays,
 ) -> Result<Counted, NoMemory>
-    requires old { ArePlaceWays (world_of networks.old) table.old scope ways.now.lists.items (get same_place ways.now.old) }
-    requires new { ArePlaceWays (world_of networks.new) table.old scope ways.now.lists.items (get same_place ways.now.new) }
+    requires { ArePlaceWays (world_of world) table.old scope ways.now.lists.items (get same_place ways.now.old) }
 {
-    let old = Net {
-        world: networks.old,
+    let net = Net {
+        world,
         places: &ways.old,
         lists: &ways.lists,
         scope,
     };
-    let new = Net {
-        world: networks.new,
-        places: &ways.new,
-        lists: &ways.lists,
-        scope,
-    };
-    match question {
-        Question::Ways { places } => opinion.count_ways(table, &old, &places),
-        Question::Labels { ttl } => ask_labels(opinion, table, &old, ttl),
-        Question::Reach { place } => ask_reach(opinion, table, &old, &new, place),
-    }
+    ask_visits(opinion, table, &net)
 }
 
-fn ask_labels(
-    opinion: Opinion,
-    table: &mut Diagrams,
-    net: &Net,
-    ttl: u8,
-) -> Result<Counted, NoMemory>
+fn ask_visits(opinion: Opinion, table: &mut Diagrams, net: &Net) -> Result<Counted, NoMemory>
     requires { IsNet table.old net.now }
 {
-    let numbers = label_numbers(opinion.alloc, table, net, INGRESS, net.scope, ttl)?;
-    opinion.count_labels(table, &numbers, ttl)
-}
-
-fn ask_reach(
-    opinion: Opinion,
-    table: &mut Diagrams,
-    old: &Net,
-    new: &Net,
-    place: Place,
-) -> Result<Counted, NoMemory>
-    requires old { IsNet table.old old.now }
-    requires new { IsNet table.old new.now }
-    requires scope { old.now.scope ≡ new.now.scope }
-    requires lists { old.now.lists.now ≡ new.now.lists.now }
-{
-    let reach = Reach::of(opinion.alloc, table, old, new)?;
-    let set = reach.headers_at(table, place)?;
-    opinion.count_alike(table, set, place)
+    let walked = labels_and_visitors(opinion.alloc, table, net, INGRESS, net.scope, opinion.ttl)?;
+    opinion.count_visits(table, &walked.visitors)
 }

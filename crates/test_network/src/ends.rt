@@ -1,21 +1,17 @@
-//! Where a header may end, and whether it loops, by its graph and by the plain rules.
-ghost use Rattle.std.specs.Prelude.{◌≤◌};
+//! Where a header may end, and whether it loops, by its graph.
 
 use crate::networks::{INGRESS, Networks, Plan, at};
 use crate::tables::{cube_of, ip, web};
 use hdr_bits::Header;
-use net_types::{NoMemory, Outcome, Place, State};
+use net_types::{NoMemory, Place};
 use net_view::WorldRef;
-use plain_rules::{label, states_after};
 use region_walk::{Explored, Graph, explore};
 use std::alloc::Global;
 use std::io;
 use transfer_rel::{Prepared, Version};
 
-/// The TTLs under which is asked. The plain rules follow each walk anew, so they are asked for loops under the small ones.
+/// The TTLs under which is asked.
 const TTLS: [u8; 5] = [1, 2, 3, 4, 255];
-
-const SMALL: u8 = 4;
 
 // A header that enters, and a place at which it may end.
 #[derive(Clone, Copy)]
@@ -42,8 +38,7 @@ fn entering(name: &'static str, plan: Plan, header: Header, place: Place) -> Cas
     }
 }
 
-/// Prints for each case under which TTLs the header may end at the place, under which it loops, and whether the plain rules
-/// say so too.
+/// Prints for each case under which TTLs the header may end at the place, and under which it loops.
 pub(crate) fn show(rt: &HostRuntime) -> io::Result<()> {
     let host = ip(10, 0, 0, 9);
     let inside = ip(10, 0, 0, 5);
@@ -100,18 +95,13 @@ fn show_world(rt: &HostRuntime, case: &Case, world: WorldRef) -> io::Result<()> 
     let Some(found) = by_graph(rt.alloc(), case, world) else {
         return println!(rt; "no graph");
     };
-    let agree = match all_agree(rt.alloc(), case, world, &found) {
-        Ok(agree) => agree,
-        Err(_) => false,
-    };
     let name = case.name;
     let ends = found.ends;
     let loops = found.loops;
-    println!(rt; "{name}: ends there {ends:?}, loops {loops:?}, by the plain rules {agree}")
+    println!(rt; "{name}: ends there {ends:?}, loops {loops:?}")
 }
 
-// ---- by the graph of this header alone
-
+// By the graph of this header alone.
 fn by_graph(alloc: Global, case: &Case, world: WorldRef) -> Option<Answers> {
     let networks = net_forms::Networks {
         old: world,
@@ -141,65 +131,4 @@ fn under_each(alloc: Global, case: &Case, graph: &Graph) -> Result<Answers, NoMe
         *answer = graph.loops(alloc, (*ttl).max(1))?;
     }
     Ok(Answers { ends, loops })
-}
-
-// ---- by the plain rules
-
-fn all_agree(
-    alloc: Global,
-    case: &Case,
-    world: WorldRef,
-    found: &Answers,
-) -> Result<bool, NoMemory> {
-    let mut agree = true;
-    for (ttl, answer) in TTLS.iter().zip(found.ends.iter()) {
-        agree &= *answer == may_end(alloc, case, world, (*ttl).max(1))?;
-    }
-    for (ttl, answer) in TTLS.iter().zip(found.loops.iter()) {
-        agree &= *ttl > SMALL || *answer == may_loop(alloc, case, world, *ttl)?;
-    }
-    Ok(agree)
-}
-
-fn may_end(alloc: Global, case: &Case, world: WorldRef, ttl: u8) -> Result<bool, NoMemory>
-    requires { 1 ≤ ttl }
-{
-    let label = label(alloc, world, ttl, INGRESS, &case.header)?;
-    Ok(
-        label
-            .as_slice()
-            .iter()
-            .any(|outcome| is_at(outcome, case.place)),
-    )
-}
-
-fn is_at(outcome: &Outcome, place: Place) -> bool {
-    match outcome {
-        Outcome::Dropped | Outcome::Expired => false,
-        Outcome::Local { place: end } | Outcome::Exit { place: end, .. } => *end == place,
-    }
-}
-
-// Whether some walk of fewer moves than the TTL is at one state twice.
-fn may_loop(alloc: Global, case: &Case, world: WorldRef, ttl: u8) -> Result<bool, NoMemory> {
-    let start = State {
-        place: INGRESS,
-        header: case.header,
-    };
-    let mut found = false;
-    for before in 0..ttl {
-        for state in &states_after(alloc, world, before, start)? {
-            found |= comes_back(alloc, world, *state, ttl - before)?;
-        }
-    }
-    Ok(found)
-}
-
-// Whether some walk of at least one move and fewer than these leads from the state to itself.
-fn comes_back(alloc: Global, world: WorldRef, state: State, limit: u8) -> Result<bool, NoMemory> {
-    let mut found = false;
-    for around in 1..limit {
-        found |= states_after(alloc, world, around, state)?.contains(&state);
-    }
-    Ok(found)
 }

@@ -1,7 +1,7 @@
-//! The labels of regions beside those of their headers.
+//! The labels of headers, and into how many regions the cubes round them fall.
 
 use crate::networks::{INGRESS, Networks, Plan, at};
-use crate::regions::{Pair, Walks, Wanted};
+use crate::regions::{Walks, Wanted};
 use crate::tables::{cube_of, ip, web};
 use hdr_bits::Header;
 use net_types::{Outcome, Place};
@@ -49,8 +49,7 @@ fn dropped_or(ttl: u8, second: Outcome) -> Wanted {
     }
 }
 
-/// Prints for each case whether the header has the labels of the table, and of the regions of its cube how many there are
-/// and how many are wrong.
+/// Prints for each case whether the header has the labels of the table, and how many regions its cube has.
 pub(crate) fn show(rt: &HostRuntime) -> io::Result<()> {
     show_all(rt, &pair_cases())?;
     show_all(rt, &fan_cases())?;
@@ -210,23 +209,24 @@ fn chain_case() -> Case {
 
 fn show_case(rt: &HostRuntime, case: &Case) -> io::Result<()> {
     match Networks::of(rt.alloc(), case.plan) {
-        Some(networks) => show_pair(rt, case, Pair::of(rt.alloc(), &networks, case.version)),
+        Some(networks) => show_networks(rt, case, &networks),
         None => println!(rt; "no network"),
     }
 }
 
-fn show_pair(rt: &HostRuntime, case: &Case, pair: Pair) -> io::Result<()> {
+fn show_networks(rt: &HostRuntime, case: &Case, networks: &Networks) -> io::Result<()> {
     let both = net_forms::Networks {
-        old: pair.old,
-        new: pair.new,
+        old: networks.old(),
+        new: networks.new(),
     };
     match Prepared::of(rt.alloc(), both) {
         Ok(prepared) => show_regions(
             rt,
             case,
             Walks {
+                alloc: rt.alloc(),
                 prepared: &prepared,
-                pair,
+                version: case.version,
             },
         ),
         Err(_) => println!(rt; "no memory"),
@@ -234,16 +234,14 @@ fn show_pair(rt: &HostRuntime, case: &Case, pair: Pair) -> io::Result<()> {
 }
 
 fn show_regions(rt: &HostRuntime, case: &Case, walks: Walks) -> io::Result<()> {
-    let found = cube_of(&case.header, case.open).and_then(|cube| walks.take_all(&cube));
-    let Some(found) = found else {
+    let found = cube_of(&case.header, case.open).and_then(|cube| walks.region_count(&cube));
+    let Some(regions) = found else {
         return println!(rt; "no memory");
     };
     let mut labels = true;
     for wanted in case.labels {
-        labels &= walks.pair.has_label(&case.header, wanted);
+        labels &= walks.has_label(&case.header, wanted);
     }
     let name = case.name;
-    let regions = found.regions;
-    let wrong = found.wrong;
-    println!(rt; "{name}: labels {labels}, regions {regions}, wrong {wrong}")
+    println!(rt; "{name}: labels {labels}, regions {regions}")
 }

@@ -1,20 +1,21 @@
-//! Small networks beside the plain rules: what devices do with headers, the labels of whole regions, where headers end
-//! and whether they loop, sets of headers, and what is alike in two networks. What each case must give follows from the
-//! rules, and stands in the file `stdout` beside this folder.
+//! Small networks: what devices do with headers, the labels of headers and the regions round them, where headers end and whether
+//! they loop, what is alike in two networks, and which devices headers visit. What each case must give follows from the rules, and stands in the file `stdout`
+//! beside this folder.
 #![tactic(auto)]
 
 mod alike;
 mod asking;
-mod compared;
+mod counting;
+mod drawn;
 mod edges;
 mod ends;
 mod labels;
 mod moves;
 mod networks;
-mod opinion;
 mod regions;
 mod tables;
 mod texts;
+mod visits;
 
 use std::io;
 
@@ -22,6 +23,6 @@ fn main(rt: HostRuntime) -> io::Result<()> {
     moves::show(&rt)?;
     labels::show(&rt)?;
     ends::show(&rt)?;
-    compared::show(&rt)?;
-    alike::show(&rt)
+    alike::show(&rt)?;
+    visits::show(&rt)
 }

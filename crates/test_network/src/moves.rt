@@ -44,14 +44,28 @@ fn show_all(rt: &HostRuntime, cases: &[Case]) -> io::Result<()> {
 }
 
 // Where nothing is translated.
-fn stopped_cases() -> [Case; 3] {
+fn stopped_cases() -> [Case; 4] {
     let host = ip(10, 0, 0, 9);
     let to_link = web(host, ip(10, 0, 1, 2));
     let to_router = web(host, ip(10, 0, 1, 1));
     let to_choices = web(host, ip(192, 168, 0, 7));
+    let bare = Header {
+        dst: to_link.dst,
+        src: 0,
+        proto: 0,
+        dport: 0,
+        sport: 0,
+        flags: 0,
+    };
     let start = at(0, 0);
     [
         arriving("out of the other interface", Plan::TwoLinks, start, to_link),
+        arriving(
+            "with nothing but a destination",
+            Plan::TwoLinks,
+            start,
+            bare,
+        ),
         arriving("for the device itself", Plan::TwoLinks, start, to_router),
         arriving(
             "one of two choices is stopped",

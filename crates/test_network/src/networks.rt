@@ -1,6 +1,7 @@
 //! Small networks, from configurations and links. Routers have the numbers 0, 1, .. in both networks of a plan, and so
 //! have the interfaces of each.
 
+use crate::drawn::add_routes;
 use crate::texts::{
     AT_EACH_OTHER, END_UP, EQUAL_CHOICES, FOUR_ENDS, LONG_CHAIN, MOVED_END, NO_WAY_BACK, OFFICE,
     OTHER_CHOICE, OUTER_RULES, SHUT_CHOICE, SHUT_END, STOPPED_CHOICE, THERE_AND_BACK,
@@ -94,6 +95,13 @@ impl Networks {
             Some(old) => with_new(alloc, plan, old),
             None => None,
         }
+    }
+
+    /// The same, with routes that are drawn by this number in the old network.
+    pub(crate) fn drawn(alloc: Global, plan: Plan, number: u64) -> Option<Networks> {
+        let mut networks = Networks::of(alloc, plan)?;
+        add_routes(alloc, &mut networks.old, number).ok()?;
+        Some(networks)
     }
 
     pub(crate) fn old(&self) -> WorldRef<'_> {

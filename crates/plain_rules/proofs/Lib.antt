@@ -1,2 +1,0 @@
-pub mod HopLemmas
-pub mod Ends
