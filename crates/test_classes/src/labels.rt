@@ -1,6 +1,6 @@
 //! Labels by numbers.
 
-use net_types::{Label, NoMemory, Outcome, Place};
+use net_types::{Duplicate, Label, NoMemory, Outcome, Place};
 use std::alloc::Global;
 
 /// The label of a number, each another one: a drop, an expiry, and then in turn an end at a device, a pair of exits of
@@ -12,6 +12,16 @@ pub(crate) fn label(alloc: Global, number: u32) -> Result<Label, NoMemory> {
     }
     outcomes.push(last_outcome(number))?;
     Label::of(outcomes)
+}
+
+/// Whether the copies of the first so many labels are equal to them.
+pub(crate) fn copies_are_equal(alloc: Global, count: u32) -> Result<bool, NoMemory> {
+    let mut equal = true;
+    for number in 0..count {
+        let one = label(alloc, number)?;
+        equal &= one.same(&one.copy(alloc)?);
+    }
+    Ok(equal)
 }
 
 fn last_outcome(number: u32) -> Outcome {

@@ -56,6 +56,8 @@ fn main(rt: HostRuntime) -> io::Result<()> {
     let alloc = rt.alloc();
     let same = intern_twice(&rt, alloc).map_err(out_of_memory)?;
     println!(rt; "drop by two threads in 32 cells: same {same}")?;
+    let equal = labels::copies_are_equal(alloc, 100).map_err(out_of_memory)?;
+    println!(rt; "copies of 100 labels: equal {equal}")?;
     for case in CASES {
         let found = compare_all(&rt, alloc, case).map_err(out_of_memory)?;
         let Case {

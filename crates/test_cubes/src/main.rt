@@ -11,6 +11,7 @@ mod stamps;
 mod stop;
 mod text;
 mod values;
+mod worked;
 
 use crate::stop::Stop;
 use std::io;
@@ -25,7 +26,8 @@ fn show_all(rt: &HostRuntime) -> Result<(), Stop> {
     rows::show(rt)?;
     diagrams::show(rt)?;
     sets::show(rt)?;
-    values::show(rt)
+    values::show(rt)?;
+    worked::show(rt)
 }
 
 fn main(rt: HostRuntime) -> io::Result<()> {

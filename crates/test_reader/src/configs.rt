@@ -1,11 +1,12 @@
-//! Texts and what they are read as: the configuration as it is printed and how many lines are passed over, or the refusal.
+//! Texts and what they are read as: a copy of the configuration, as it is printed, and how many lines are passed over, or the
+//! refusal.
 ghost use Rattle.std.specs.Prelude.{◌≤◌, length};
 ghost use Rattle.net_text.specs.Limits.{text_limit};
 
 use crate::stop::Stop;
 use ios_config::{ConfigFail, Reading, Refusal, read_config};
 use ios_print::print_config;
-use net_types::NoMemory;
+use net_types::{Duplicate, NoMemory};
 use std::alloc::Global;
 use std::fs;
 use std::io::Write;
@@ -60,12 +61,13 @@ fn show_text(rt: &HostRuntime, text: &[u8]) -> Result<(), Stop> {
     }
 }
 
-/// The configuration of a text as it is printed, and how many lines are passed over.
+/// A copy of the configuration of a text, as it is printed, and how many lines are passed over.
 fn read_printed(alloc: Global, text: &[u8]) -> Result<(Vec<u8>, u32), ConfigFail>
     requires { length text.now ≤ text_limit }
 {
     let Reading { config, passed } = read_config(alloc, text)?;
-    match print_config(alloc, &config) {
+    let copy = config.copy(alloc)?;
+    match print_config(alloc, &copy) {
         Ok(printed) => Ok((printed, passed)),
         Err(NoMemory) => Err(ConfigFail::NoMemory),
     }

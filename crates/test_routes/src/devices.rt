@@ -1,8 +1,9 @@
-//! Devices that differ in one thing each: each is found equal to its copy. That no other is found so is proved.
+//! Devices that differ in one thing each: each is found equal to one that is read of the same text, and to its copy. That no other is
+//! found so is proved.
 
 use crate::read::read;
 use device_equality::same_device;
-use net_types::{List, NetDevice};
+use net_types::{Duplicate, List, NetDevice};
 use std::alloc::Global;
 use std::io;
 
@@ -82,7 +83,7 @@ const LINES_CHANGED: [(usize, &str); 38] = [
     ),
 ];
 
-/// Prints how many devices there are and how many of them are found equal to their copies.
+/// Prints how many devices there are and how many of them are found equal to others of the same text and to their copies.
 pub(crate) fn print_devices(rt: &HostRuntime) -> io::Result<()> {
     let Some(changes) = changes(rt.alloc()) else {
         return println!(rt; "no memory");
@@ -105,14 +106,17 @@ fn changes(alloc: Global) -> Option<Vec<Change>> {
 
 // How many of the devices are found equal to another one of the same text.
 fn count_equal(alloc: Global, changes: &[Change]) -> usize {
-    let equal = changes.iter().filter(|change| are_equal(alloc, **change, **change) == Some(true));
+    let equal = changes
+        .iter()
+        .filter(|change| is_equal(alloc, **change) == Some(true));
     equal.count()
 }
 
-fn are_equal(alloc: Global, a: Change, b: Change) -> Option<bool> {
-    let a = device(alloc, a)?;
-    let b = device(alloc, b)?;
-    Some(same_device(&a, &b))
+fn is_equal(alloc: Global, change: Change) -> Option<bool> {
+    let one = device(alloc, change)?;
+    let again = device(alloc, change)?;
+    let copy = one.copy(alloc).ok()?;
+    Some(same_device(&one, &again) && same_device(&one, &copy))
 }
 
 fn device(alloc: Global, change: Change) -> Option<NetDevice> {

@@ -155,10 +155,11 @@ fn entry_permits(alloc: Global, entry: &Entry, header: &Header) -> Result<bool, 
 }
 
 /// Lists, each by its lines.
-const LISTS: [&str; 4] = [
+const LISTS: [&str; 5] = [
     " 10 deny tcp any any",
     " 10 deny tcp any any\n 20 permit ip any host 10.0.1.5",
     " 10 deny udp any any\n 20 permit tcp any any eq 80\n 30 deny tcp any any eq 80",
+    " permit icmp any any\n permit tcp any host 10.0.1.5 eq www",
     "",
 ];
 

@@ -19,7 +19,7 @@ interface L0
  ip address 10.9.0.1 255.255.255.0 secondary";
 
 /// Written routes, and the destination that is looked up.
-const TABLES: [(&str, u32); 14] = [
+const TABLES: [(&str, u32); 15] = [
     // No route, and a next hop that is looked up in turn, once and twice.
     ("", 0xc0a8_0007),
     (
@@ -44,6 +44,12 @@ ip route 172.17.0.0 255.255.255.0 172.16.0.1",
         "ip route 192.168.0.0 255.255.255.0 10.0.0.2
 ip route 192.168.0.0 255.255.255.0 192.168.0.9",
         0xc0a8_0007,
+    ),
+    // A longer prefix that leads into itself is installed, and its destinations are dropped.
+    (
+        "ip route 172.16.0.0 255.255.0.0 10.0.0.2
+ip route 172.16.5.0 255.255.255.0 172.16.5.1",
+        0xac10_0509,
     ),
     // The router's own address is no next hop, also that of a /32; a route of distance 255 is never valid.
     (
@@ -94,16 +100,27 @@ ip route 172.16.0.0 255.255.255.0 10.0.0.2",
     ),
 ];
 
+// Two equal routes behind two links.
+const TWO_LINKS: &str = "interface Ethernet0
+ ip address 10.0.0.1 255.255.255.0
+interface Ethernet1
+ ip address 10.0.1.1 255.255.255.252
+interface Ethernet2
+ ip address 10.0.2.1 255.255.255.252";
+
+const EQUAL_ROUTES: &str = "ip route 192.168.0.0 255.255.255.0 10.0.1.2
+ip route 192.168.0.0 255.255.255.0 10.0.2.2";
+
 /// Prints of each table the installed routes, and the choices.
 pub(crate) fn print_routes(rt: &HostRuntime) -> io::Result<()> {
     for (lines, address) in TABLES {
-        print_table(rt, lines, address)?;
+        print_table(rt, INTERFACES, lines, address)?;
     }
-    Ok(())
+    print_table(rt, TWO_LINKS, EQUAL_ROUTES, 0xc0a8_0007)
 }
 
-fn print_table(rt: &HostRuntime, lines: &str, address: u32) -> io::Result<()> {
-    let Some(rib) = installed(rt.alloc(), lines) else {
+fn print_table(rt: &HostRuntime, interfaces: &str, lines: &str, address: u32) -> io::Result<()> {
+    let Some(rib) = installed(rt.alloc(), interfaces, lines) else {
         return println!(rt; "refused: {lines}");
     };
     print!(rt; "of {}", rib.count)?;
@@ -114,8 +131,8 @@ fn print_table(rt: &HostRuntime, lines: &str, address: u32) -> io::Result<()> {
     println!(rt; "")
 }
 
-fn installed(alloc: Global, lines: &str) -> Option<Rib> {
-    let config = read_lines(alloc, INTERFACES, lines)?;
+fn installed(alloc: Global, interfaces: &str, lines: &str) -> Option<Rib> {
+    let config = read_lines(alloc, interfaces, lines)?;
     build(alloc, &config).ok()
 }
 
