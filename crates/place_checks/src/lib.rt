@@ -1,0 +1,23 @@
+//! Places of a link table that are worth a look before a comparison is believed: names that no network has, ends where
+//! nothing arrives, ends of one segment in several subnets, interfaces of one subnet that no segment joins, and next hops on
+//! lans that no end has.
+//!
+//! No rule refuses any of these: a packet has its fate there too. What is found is in `specs/Findings.antt`
+//! and `specs/Strays.antt`, as whole lists.
+#![tactic(auto)]
+
+mod checks;
+mod devices;
+mod ends;
+mod finding;
+mod nearest;
+mod nets;
+mod place;
+mod segments;
+mod strays;
+mod subnets;
+mod unlinked;
+
+pub use checks::{Folders, place_findings};
+pub use finding::{Networks, PlaceFinding};
+pub use strays::{StrayNext, stray_findings};

@@ -1,0 +1,85 @@
+//! What is found in configurations.
+
+use crate::networks::shown;
+use crate::stop::Stop;
+use config_checks::{ConfigFinding, config_findings};
+use net_types::{Loaded, Subnet, Text};
+use topo_links::NameIndex;
+
+/// The findings of each device; the list 12 is named elsewhere.
+pub(crate) fn show(rt: &HostRuntime, devices: &[Loaded]) -> Result<(), Stop> {
+    let mut elsewhere = NameIndex::new(rt.alloc());
+    elsewhere.add(rt.alloc(), &Text::copy_of(rt.alloc(), b"12")?)?;
+    for device in devices {
+        println!(rt; "== {}", shown(&device.config.hostname))?;
+        for finding in &config_findings(rt.alloc(), &device.config, &elsewhere)? {
+            show_finding(rt, finding)?;
+        }
+    }
+    Ok(())
+}
+
+fn show_route(rt: &HostRuntime, what: &str, prefix: &Subnet, next: u32) -> Result<(), Stop> {
+    println!(rt; "{what} {}/{} {next}", prefix.address, prefix.length)?;
+    Ok(())
+}
+
+fn show_finding(rt: &HostRuntime, finding: &ConfigFinding) -> Result<(), Stop> {
+    match finding {
+        ConfigFinding::NoList {
+            interface,
+            direction,
+            list,
+        } => println!(rt;
+            "no list {} {direction:?} {}",
+            shown(interface),
+            shown(list)
+        )?,
+        ConfigFinding::EmptyList {
+            interface,
+            direction,
+            list,
+        } => println!(rt;
+            "empty list {} {direction:?} {}",
+            shown(interface),
+            shown(list)
+        )?,
+        ConfigFinding::UnusedList { list } => println!(rt; "unused list {}", shown(list))?,
+        ConfigFinding::MaskAsWildcard {
+            list,
+            sequence,
+            field,
+            address,
+        } => println!(rt;
+            "mask {} {sequence} {field:?} {} {}",
+            shown(list),
+            address.value,
+            address.wild
+        )?,
+        ConfigFinding::NoInside => println!(rt; "no inside")?,
+        ConfigFinding::NoOutside => println!(rt; "no outside")?,
+        other => show_next(rt, other)?,
+    }
+    Ok(())
+}
+
+/// A finding of a next hop.
+fn show_next(rt: &HostRuntime, finding: &ConfigFinding) -> Result<(), Stop> {
+    match finding {
+        ConfigFinding::NextIsOwn { prefix, next } => show_route(rt, "own", prefix, *next),
+        ConfigFinding::NextNowhere { prefix, next } => show_route(rt, "nowhere", prefix, *next),
+        ConfigFinding::NextByDefault { prefix, next } => show_route(rt, "default", prefix, *next),
+        ConfigFinding::NextByItself { prefix, next } => show_route(rt, "itself", prefix, *next),
+        ConfigFinding::NextElsewhere {
+            prefix,
+            interface: _,
+            next,
+        } => show_route(rt, "elsewhere", prefix, *next),
+        ConfigFinding::NeverFloats {
+            prefix,
+            distance: _,
+            next,
+        } => show_route(rt, "never floats", prefix, *next),
+        _ => Ok(()),
+    }
+}
