@@ -1,0 +1,39 @@
+//! The program `doctor`: the words of the command line, the system's files and streams, and the status.
+#![tactic(auto)]
+
+use doctor_core::doctor_run;
+use job_core::no_memory;
+use net_io::{RealFiles, RealSink};
+use std::io::ErrorKind;
+use std::process::ExitCode;
+use std::{env, io};
+
+// The words of the command line, without the program's name.
+fn words(rt: &HostRuntime) -> io::Result<Vec<String>> {
+    let mut words = Vec::new(rt.alloc());
+    for word in env::args(rt)?.skip(1) {
+        words.push(word)?;
+    }
+    Ok(words)
+}
+
+// The status of a run of these words.
+fn run_words(rt: HostRuntime, words: &[String]) -> u8 {
+    let alloc = rt.alloc();
+    let mut out = RealSink::new(rt.stdout());
+    let mut err = RealSink::new(rt.stderr());
+    let mut files = RealFiles::new(rt);
+    doctor_run(alloc, words, &mut files, &mut out, &mut err)
+}
+
+fn main(rt: HostRuntime) -> ExitCode {
+    let status = match words(&rt) {
+        Ok(words) => run_words(rt, &words),
+        Err(error) if error.kind() == ErrorKind::OutOfMemory => {
+            no_memory(&mut RealSink::new(rt.stderr()))
+        }
+        // Words that can't be read are no command.
+        Err(_) => run_words(rt, &[]),
+    };
+    ExitCode::from(status)
+}

@@ -1,0 +1,179 @@
+//! The files that the words name, read in their order, and what is told of them.
+
+ghost use Rattle.std.specs.Prelude.{◌≡◌, IfErr, IfOk, IfSome, option_map};
+ghost use Rattle.job_core.specs.Causes.{HasCause, WasRead};
+ghost use Rattle.job_core.specs.Steps.{OrNoMemory};
+ghost use Rattle.doctor_warnings.specs.Doctor.{warnings};
+ghost use Rattle.doctor_core.specs.Job.{IsLook, IsTold, IsWritten, Looks, LooksBehind, LooksOver, LooksWith, with_links};
+ghost use Rattle.doctor_core.specs.Words.{paths};
+
+use crate::reading::{read_text, read_texts};
+use crate::words::Asked;
+use doctor_warnings::{Subject, Tables, TextAt, Texts, warnings_bytes, warnings_in};
+use job_core::{Report, Stop};
+use net_io::Files;
+use net_types::NoMemory;
+use std::alloc::Global;
+
+/// What is told of the networks that the words name.
+pub(crate) fn look<F: Files>(alloc: Global, files: &mut F, asked: &Asked) -> Result<Report, Stop>
+    ensures job { IfSome (F.told files.old) (λ t. Looks t (paths asked.now) result) }
+    ensures cause { HasCause (F.faults files.old) (F.faults files.new) result }
+{
+    match read_texts(alloc, files, asked.old) {
+        Ok(old) => look_over(alloc, files, asked, old),
+        Err(stop) => Err(stop),
+    }
+}
+
+// The same, where the old network is read.
+fn look_over<F: Files>(
+    alloc: Global,
+    files: &mut F,
+    asked: &Asked,
+    old: Texts,
+) -> Result<Report, Stop>
+    ensures job { IfSome (F.told files.old) (λ t. LooksOver (paths asked.now).new t (paths asked.now) old result) }
+    ensures cause { HasCause (F.faults files.old) (F.faults files.new) result }
+{
+    match asked.new {
+        None => look_with(alloc, files, asked, old, None),
+        Some(path) => look_between(alloc, files, asked, old, path),
+    }
+}
+
+// The same of two networks.
+fn look_between<F: Files>(
+    alloc: Global,
+    files: &mut F,
+    asked: &Asked,
+    old: Texts,
+    path: &str,
+) -> Result<Report, Stop>
+    ensures job { IfSome (F.told files.old) (λ t. LooksOver (Some path.now) t (paths asked.now) old result) }
+    ensures cause { HasCause (F.faults files.old) (F.faults files.new) result }
+{
+    match read_texts(alloc, files, path) {
+        Ok(new) => look_with(alloc, files, asked, old, Some(new)),
+        Err(stop) => Err(stop),
+    }
+}
+
+// The same, where the networks are read.
+fn look_with<F: Files>(
+    alloc: Global,
+    files: &mut F,
+    asked: &Asked,
+    old: Texts,
+    new: Option<Texts>,
+) -> Result<Report, Stop>
+    ensures job { IfSome (F.told files.old) (λ t. LooksWith t (paths asked.now) old new result) }
+    ensures cause { HasCause (F.faults files.old) (F.faults files.new) result }
+{
+    match read_text(alloc, files, asked.links) {
+        Ok(links) => {
+            let subject = Subject {
+                all: asked.all,
+                old,
+                new,
+                tables: Tables {
+                    links,
+                    new_links: None,
+                },
+            };
+            look_by(alloc, files, asked.new_links, subject)
+        }
+        Err(stop) => Err(stop),
+    }
+}
+
+// The same, where the first link table is read, too.
+fn look_by<F: Files>(
+    alloc: Global,
+    files: &mut F,
+    new_links: Option<&str>,
+    subject: Subject,
+) -> Result<Report, Stop>
+    ensures job { IfSome (F.told files.old) (λ t. LooksBehind (option_map (λ p. p.now) new_links.entry) t subject result) }
+    ensures cause { HasCause (F.faults files.old) (F.faults files.new) result }
+{
+    match new_links {
+        None => report_of(alloc, subject),
+        Some(path) => look_behind(alloc, files, path, subject),
+    }
+}
+
+// The same, where the new network has its own link table.
+fn look_behind<F: Files>(
+    alloc: Global,
+    files: &mut F,
+    path: &str,
+    subject: Subject,
+) -> Result<Report, Stop>
+    ensures job { IfSome (F.told files.old) (λ t. LooksBehind (Some path.now) t subject result) }
+    ensures cause { HasCause (F.faults files.old) (F.faults files.new) result }
+{
+    match read_text(alloc, files, path) {
+        Ok(new_links) => report_of(alloc, with_links(subject, new_links)),
+        Err(stop) => Err(stop),
+    }
+}
+
+// The same with the link table of the new network.
+fn with_links(subject: Subject, new_links: TextAt) -> Subject
+    ensures { result ≡ with_links subject new_links }
+{
+    let Subject {
+        all,
+        old,
+        new,
+        tables: Tables {
+            links,
+            new_links: _,
+        },
+    } = subject;
+    Subject {
+        all,
+        old,
+        new,
+        tables: Tables {
+            links,
+            new_links: Some(new_links),
+        },
+    }
+}
+
+// All warnings as they are written.
+fn report_of(alloc: Global, subject: Subject) -> Result<Report, Stop>
+    ensures job { IsLook subject result }
+    ensures read { IfErr result WasRead }
+{
+    Ok(written(alloc, subject)?)
+}
+
+fn written(alloc: Global, subject: Subject) -> Result<Report, NoMemory>
+    ensures { IfOk result (IsWritten (warnings subject)) }
+{
+    let warnings = warnings_in(alloc, subject)?;
+    Ok(Report {
+        text: warnings_bytes(alloc, warnings.as_slice())?,
+        affected: warnings.as_slice().len() > 0,
+    })
+}
+
+/// A text that is asked for by itself.
+pub(crate) fn told(alloc: Global, text: &[u8]) -> Result<Report, Stop>
+    ensures told { OrNoMemory (IsTold text.now) result }
+    ensures read { IfErr result WasRead }
+{
+    Ok(told_report(alloc, text)?)
+}
+
+fn told_report(alloc: Global, text: &[u8]) -> Result<Report, NoMemory>
+    ensures { IfOk result (IsTold text.now) }
+{
+    Ok(Report {
+        text: text.to_vec(alloc)?,
+        affected: false,
+    })
+}

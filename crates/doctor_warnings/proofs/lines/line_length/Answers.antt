@@ -1,0 +1,5 @@
+use Rattle.net_text.proofs.Parts.{none_passes}
+use Rattle.doctor_warnings.proofs.lines.line_length.Goals as goal
+
+pub returns-in-None-clause-place : goal.returns-in-None-clause-place
+returns-in-None-clause-place c = none_passes _ _ (cc)

@@ -1,0 +1,227 @@
+//! What is told of link tables, and the networks that they wire.
+ghost use Rattle.std.specs.Prelude.{◌≡◌, [], ◌∷◌, ◌++◌, IfOk, OnOk, map, option_map};
+ghost use Rattle.topo_links.specs.NetIndex.{Judges};
+ghost use Rattle.place_checks.specs.Sights.{folders_of};
+ghost use Rattle.doctor_warnings.specs.Tables.{both_of, device_of, devices_of, fault_of, is_own, judged, judged_warnings, loaded_file, pair_of, place_warnings, places_told, refused_line, table_warnings};
+
+use crate::examined::Examined;
+use crate::files::{TextAt, TextFile};
+use crate::lines::{nth_line, trimmed};
+use crate::warning::Warning;
+use crate::wiring::Wiring;
+use ios_config::Reading;
+use net_types::{Duplicate, List, Loaded, NoMemory, Text};
+use place_checks::{Folders, Networks, PlaceFinding, place_findings};
+use std::alloc::Global;
+use topo_links::{LinkFail, LinkRefusal, LinkTable, check, check_own, read_links};
+
+/// Two networks for which a table is judged.
+#[derive(Clone, Copy)]
+pub struct Nets<'a> {
+    pub first: &'a [Loaded],
+    pub second: &'a [Loaded],
+}
+
+/// The devices of a folder's files, where none is refused.
+pub(crate) fn devices_of(
+    alloc: Global,
+    files: Vec<Examined>,
+) -> Result<Option<List<Loaded>>, NoMemory>
+    ensures { IfOk result (λ devices. devices ≡ devices_of (map (λ e. e.file) files.items)) }
+{
+    let mut devices = Vec::new(alloc);
+    let mut refused = false;
+    for file in files {
+        match device_of(file) {
+            Some(device) => devices.push(device)?,
+            None => refused = true,
+        }
+    }
+    if refused {
+        return Ok(None);
+    }
+    Ok(Some(List::new(devices)))
+}
+
+/// A file's configuration, where it isn't refused.
+fn device_of(examined: Examined) -> Option<Loaded>
+    ensures { result ≡ device_of examined.file }
+{
+    let Examined {
+        file,
+        passed: _,
+        reading,
+    } = examined;
+    let TextFile { name, bytes: _ } = file;
+    match reading {
+        Ok(Reading { config, passed }) => Some(Loaded {
+            file: name,
+            config,
+            passed,
+        }),
+        Err(_) => None,
+    }
+}
+
+/// Two networks of which no file is refused.
+pub(crate) fn both_of<'a>(
+    first: &'a Option<List<Loaded>>,
+    second: &'a Option<List<Loaded>>,
+) -> Option<Nets<'a>>
+    ensures { option_map pair_of result ≡ both_of first.now second.now }
+{
+    match first {
+        None => None,
+        Some(first) => match second {
+            None => None,
+            Some(second) => Some(Nets {
+                first: first.as_slice(),
+                second: second.as_slice(),
+            }),
+        },
+    }
+}
+
+/// Adds what is told of a table: its first refusal, by its own words or, where the networks are known, for them; else the places
+/// of the networks that are worth a look.
+pub(crate) fn add_table(
+    alloc: Global,
+    wiring: Wiring,
+    table: &TextAt,
+    nets: Option<Nets<'_>>,
+    warnings: &mut Vec<Warning>,
+) -> Result<(), NoMemory>
+    ensures { OnOk result (warnings.new.items ≡ warnings.old.items ++ table_warnings wiring table.now.path (option_map pair_of nets.entry) table.now.bytes) }
+{
+    match read_links(alloc, table.bytes.as_slice()) {
+        Ok(links) => add_judged(alloc, wiring, table, nets, &links, warnings),
+        Err(LinkFail::NoMemory) => Err(NoMemory),
+        Err(LinkFail::Refused { kind, line, word }) => {
+            add_refused(alloc, table, kind, line, word, warnings)
+        }
+    }
+}
+
+/// Adds a refused line of a table.
+fn add_refused(
+    alloc: Global,
+    table: &TextAt,
+    kind: LinkRefusal,
+    line: u32,
+    word: Text,
+    warnings: &mut Vec<Warning>,
+) -> Result<(), NoMemory>
+    ensures { OnOk result (warnings.new.items ≡ warnings.old.items ++ refused_line table.now.path table.now.bytes kind line word ∷ []) }
+{
+    let text = Text::copy_of(alloc, trimmed(nth_line(table.bytes.as_slice(), line)))?;
+    warnings.push(Warning::Refused {
+        path: table.path.copy(alloc)?,
+        line,
+        kind: Text::copy_of(alloc, kind.name().as_bytes())?,
+        word,
+        text,
+    })?;
+    Ok(())
+}
+
+/// Adds what is told of the lines of a table.
+fn add_judged(
+    alloc: Global,
+    wiring: Wiring,
+    table: &TextAt,
+    nets: Option<Nets<'_>>,
+    links: &LinkTable,
+    warnings: &mut Vec<Warning>,
+) -> Result<(), NoMemory>
+    ensures { OnOk result (warnings.new.items ≡ warnings.old.items
+        ++ judged_warnings wiring table.now.path (option_map pair_of nets.entry) table.now.bytes links.now.lines (fault_of (is_own wiring) (option_map pair_of nets.entry) links.now.lines)) }
+{
+    match judge(alloc, wiring, nets, links) {
+        Ok(()) => add_places(alloc, wiring, &table.path, nets, links, warnings),
+        Err(LinkFail::NoMemory) => Err(NoMemory),
+        Err(LinkFail::Refused { kind, line, word }) => {
+            add_refused(alloc, table, kind, line, word, warnings)
+        }
+    }
+}
+
+fn judge(
+    alloc: Global,
+    wiring: Wiring,
+    nets: Option<Nets<'_>>,
+    table: &LinkTable,
+) -> Result<(), LinkFail>
+    ensures { Judges (fault_of (is_own wiring) (option_map pair_of nets.entry) table.now.lines) result }
+{
+    let Some(nets) = nets else {
+        return Ok(());
+    };
+    if wiring.is_own() {
+        check_own(alloc, table, nets.first, nets.second)
+    } else {
+        check(alloc, table, nets.first, nets.second)
+    }
+}
+
+/// Adds the places that are worth a look, where the networks are known.
+fn add_places(
+    alloc: Global,
+    wiring: Wiring,
+    path: &Text,
+    nets: Option<Nets<'_>>,
+    links: &LinkTable,
+    warnings: &mut Vec<Warning>,
+) -> Result<(), NoMemory>
+    ensures { OnOk result (warnings.new.items ≡ warnings.old.items ++ place_warnings wiring path.now (option_map pair_of nets.entry) links.now.lines) }
+{
+    let Some(nets) = nets else {
+        return Ok(());
+    };
+    let found = place_findings(alloc, folders_of(wiring, nets), links)?;
+    add_found(alloc, path, wiring.are_two(), found, warnings)
+}
+
+fn add_found(
+    alloc: Global,
+    path: &Text,
+    two: bool,
+    found: Vec<PlaceFinding>,
+    warnings: &mut Vec<Warning>,
+) -> Result<(), NoMemory>
+    ensures { OnOk result (warnings.new.items ≡ warnings.old.items ++ places_told path.now two found.items) }
+{
+    for finding in found {
+        let path = path.copy(alloc)?;
+        warnings.push(Warning::Place { path, two, finding })?;
+    }
+    Ok(())
+}
+
+/// The networks as their places are judged.
+fn folders_of(wiring: Wiring, nets: Nets<'_>) -> Folders<'_>
+    ensures { folders_of result ≡ judged wiring (pair_of nets.entry) }
+{
+    let Nets { first, second } = nets;
+    match wiring {
+        Wiring::Alone => Folders {
+            old: first,
+            new: &[],
+            judged: Networks::Old,
+        },
+        Wiring::Both => Folders {
+            old: first,
+            new: second,
+            judged: Networks::Both,
+        },
+        Wiring::Old => Folders {
+            old: first,
+            new: second,
+            judged: Networks::Old,
+        },
+        Wiring::New => Folders {
+            old: second,
+            new: first,
+            judged: Networks::New,
+        },
+    }
+}

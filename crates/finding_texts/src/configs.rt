@@ -1,0 +1,229 @@
+//! Findings about a configuration.
+ghost use Rattle.std.specs.Prelude.{◌≡◌, ◌++◌, OnOk};
+ghost use Rattle.finding_texts.specs.ConfigTexts.{config_text, direction_text, field_text, masked_text, named_text, way_text};
+
+use crate::adding::{append, append_address, append_number, append_text};
+use config_checks::{AddressField, ConfigFinding, Direction};
+use net_types::{Masked, NoMemory, Subnet, Text};
+use std::alloc::Global;
+
+/// A finding.
+pub fn append_config(
+    alloc: Global,
+    out: &mut Vec<u8>,
+    finding: &ConfigFinding,
+) -> Result<(), NoMemory>
+    ensures { OnOk result (out.new.items ≡ out.old.items ++ config_text finding.now) }
+{
+    match finding {
+        ConfigFinding::NoList {
+            interface,
+            direction,
+            list,
+        } => {
+            append_named(out, interface, *direction, list)?;
+            append(out, b", which isn't there: every packet passes")
+        }
+        ConfigFinding::EmptyList {
+            interface,
+            direction,
+            list,
+        } => {
+            append_named(out, interface, *direction, list)?;
+            append(out, b", which has no entry: every packet passes")
+        }
+        ConfigFinding::UnusedList { list } => append_unused(out, list),
+        ConfigFinding::MaskAsWildcard {
+            list,
+            sequence,
+            field,
+            address,
+        } => append_mask(alloc, out, list, *sequence, *field, *address),
+        ConfigFinding::NextIsOwn { prefix, next } => {
+            append_next(
+                alloc,
+                out,
+                *prefix,
+                *next,
+                b": the next hop is the device itself, so it is never valid",
+            )
+        }
+        ConfigFinding::NextNowhere { prefix, next } => {
+            append_next(
+                alloc,
+                out,
+                *prefix,
+                *next,
+                b": no route holds the next hop, so it isn't valid",
+            )
+        }
+        ConfigFinding::NextByDefault { prefix, next } => {
+            append_next(
+                alloc,
+                out,
+                *prefix,
+                *next,
+                b": only a default holds the next hop, so it goes where that leads",
+            )
+        }
+        ConfigFinding::NextByItself { prefix, next } => {
+            append_next(
+                alloc,
+                out,
+                *prefix,
+                *next,
+                b": the next hop is looked up in the route's own prefix, so one of the choices is a drop",
+            )
+        }
+        ConfigFinding::NextElsewhere {
+            prefix,
+            interface,
+            next,
+        } => append_elsewhere(alloc, out, *prefix, interface, *next),
+        ConfigFinding::NeverFloats {
+            prefix,
+            distance,
+            next,
+        } => append_floating(alloc, out, *prefix, *distance, *next),
+        ConfigFinding::NoInside => append(
+            out,
+            b"address translation without an interface inside that is up",
+        ),
+        ConfigFinding::NoOutside => append(
+            out,
+            b"address translation without an interface outside that is up",
+        ),
+    }
+}
+
+/// An entry with a mask for a wildcard.
+fn append_mask(
+    alloc: Global,
+    out: &mut Vec<u8>,
+    list: &Text,
+    sequence: u32,
+    field: AddressField,
+    address: Masked,
+) -> Result<(), NoMemory>
+    ensures { OnOk result (out.new.items ≡ out.old.items ++ config_text (ConfigFinding.MaskAsWildcard list.now sequence field address)) }
+{
+    append(out, b"entry ")?;
+    append_number(alloc, out, u64::from(sequence))?;
+    append(out, b" of the access list ")?;
+    append_text(out, list)?;
+    append(out, b" has a mask for a wildcard: ")?;
+    append_field(out, field)?;
+    append_masked(alloc, out, address)
+}
+
+/// An address and its wildcard.
+fn append_masked(alloc: Global, out: &mut Vec<u8>, address: Masked) -> Result<(), NoMemory>
+    ensures { OnOk result (out.new.items ≡ out.old.items ++ masked_text address) }
+{
+    append_address(alloc, out, address.value)?;
+    append(out, b" ")?;
+    append_address(alloc, out, address.wild)
+}
+
+/// `interface I names the access list L in`
+fn append_named(
+    out: &mut Vec<u8>,
+    interface: &Text,
+    direction: Direction,
+    list: &Text,
+) -> Result<(), NoMemory>
+    ensures { OnOk result (out.new.items ≡ out.old.items ++ named_text interface.now direction list.now) }
+{
+    append(out, b"interface ")?;
+    append_text(out, interface)?;
+    append(out, b" names the access list ")?;
+    append_text(out, list)?;
+    append_direction(out, direction)
+}
+
+fn append_direction(out: &mut Vec<u8>, direction: Direction) -> Result<(), NoMemory>
+    ensures { OnOk result (out.new.items ≡ out.old.items ++ direction_text direction) }
+{
+    match direction {
+        Direction::Input => append(out, b" in"),
+        Direction::Output => append(out, b" out"),
+    }
+}
+
+fn append_field(out: &mut Vec<u8>, field: AddressField) -> Result<(), NoMemory>
+    ensures { OnOk result (out.new.items ≡ out.old.items ++ field_text field) }
+{
+    match field {
+        AddressField::Source => append(out, b"source "),
+        AddressField::Destination => append(out, b"destination "),
+    }
+}
+
+/// `route A/N by H`
+fn append_way(alloc: Global, out: &mut Vec<u8>, prefix: Subnet, next: u32) -> Result<(), NoMemory>
+    ensures { OnOk result (out.new.items ≡ out.old.items ++ way_text prefix next) }
+{
+    append(out, b"route ")?;
+    append_address(alloc, out, prefix.address)?;
+    append(out, b"/")?;
+    append_number(alloc, out, u64::from(prefix.length))?;
+    append(out, b" by ")?;
+    append_address(alloc, out, next)
+}
+
+/// A way, and what is odd with its next hop.
+fn append_next(
+    alloc: Global,
+    out: &mut Vec<u8>,
+    prefix: Subnet,
+    next: u32,
+    what: &[u8],
+) -> Result<(), NoMemory>
+    ensures { OnOk result (out.new.items ≡ out.old.items ++ (way_text prefix next ++ what.now)) }
+{
+    append_way(alloc, out, prefix, next)?;
+    append(out, what)
+}
+
+/// A route whose next hop isn't behind its interface.
+fn append_elsewhere(
+    alloc: Global,
+    out: &mut Vec<u8>,
+    prefix: Subnet,
+    interface: &Text,
+    next: u32,
+) -> Result<(), NoMemory>
+    ensures { OnOk result (out.new.items ≡ out.old.items ++ config_text (ConfigFinding.NextElsewhere prefix interface.now next)) }
+{
+    append_way(alloc, out, prefix, next)?;
+    append(out, b": no subnet of interface ")?;
+    append_text(out, interface)?;
+    append(out, b" holds the next hop")
+}
+
+/// A route that has a backup and stays.
+fn append_floating(
+    alloc: Global,
+    out: &mut Vec<u8>,
+    prefix: Subnet,
+    distance: u8,
+    next: u32,
+) -> Result<(), NoMemory>
+    ensures { OnOk result (out.new.items ≡ out.old.items ++ config_text (ConfigFinding.NeverFloats prefix distance next)) }
+{
+    append_way(alloc, out, prefix, next)?;
+    append(out, b" at distance ")?;
+    append_number(alloc, out, u64::from(distance))?;
+    append(
+        out,
+        b": another route holds the next hop, so the backup never takes over",
+    )
+}
+
+/// A list that nothing names.
+fn append_unused(out: &mut Vec<u8>, list: &Text) -> Result<(), NoMemory>
+    ensures { OnOk result (out.new.items ≡ out.old.items ++ config_text (ConfigFinding.UnusedList list.now)) }
+{
+    append(out, b"nothing names the access list ")?;
+    append_text(out, list)
+}

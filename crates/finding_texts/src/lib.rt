@@ -1,0 +1,12 @@
+//! How findings about places and about configurations are written, and how bytes of a file are shown.
+//!
+//! Each function adds a text at the end. Where memory runs out, a part of it may stand there.
+#![tactic(auto)]
+
+mod adding;
+mod configs;
+mod places;
+
+pub use adding::{append, append_number, append_shown};
+pub use configs::append_config;
+pub use places::{append_place, line_of};
