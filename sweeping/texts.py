@@ -2,15 +2,13 @@
 
 
 def groups_of(path):
-    """What `view` shows: the groups of each ingress, as lines."""
+    """What `view` shows: the groups of each ingress, as lines. A summary and all loops stand before these."""
     groups, here = {}, None
     with open(path, encoding="latin-1", newline="\n") as stream:
         for line in stream:
             if line.startswith("ingress "):
                 here = groups.setdefault(line.split(": ", 1)[0], [])
-            elif line.startswith("summary:"):
-                break
-            elif line.startswith("  "):
+            elif line.startswith("  ") and here is not None:
                 here.append(line[2:])
     return groups
 

@@ -1,12 +1,15 @@
 #!/usr/bin/env bash
-# Opens the page of examples/campus in a headless Chromium (Debian's package) and looks at what it shows. Skipped where there
-# is none. The last line is 'N passed, M failed'.
+# Opens pages of view in a headless Chromium (Debian's package) and looks at what they show: their groups, the filter, and at 1400 and 400
+# pixels, light and dark, whether anything is wider than the page, the least contrast of a text, and what no keyboard reaches. Skipped where
+# there is no Chromium. With a folder as its word it writes pictures of the page of examples/campus there: page-WIDTH-SCHEME.png and, where
+# poppler's pdftoppm is there, page-printed.png. The last line is 'N passed, M failed'.
 set -u
 cd "$(dirname "${BASH_SOURCE[0]}")/.." || exit 2
 browser=$(command -v chromium) || {
     echo "skipped: there is no chromium"
     exit 0
 }
+pictures=${1:-}
 passed=0
 failed=0
 scratch=$(mktemp -d) || exit 2
@@ -22,45 +25,132 @@ check() {
     fi
 }
 
-# open PAGE: the page as the browser has it once the script ran, in $scratch/dom; what its console says, in $scratch/log.
-open() {
-    timeout 60 "$browser" --headless --no-sandbox --disable-gpu --user-data-dir="$scratch/home" --enable-logging=stderr \
-        --dump-dom "file://$1" >"$scratch/dom" 2>"$scratch/log"
+# chrome OPTION ... URL: with what it says of a page's console in $scratch/log.
+chrome() {
+    timeout 60 "$browser" --headless --no-sandbox --disable-gpu --hide-scrollbars --user-data-dir="$scratch/home" --enable-logging=stderr "$@" \
+        2>"$scratch/log"
 }
 
-# How many rows of the table there are, and how many of them are hidden.
-rows() { grep -c '<tr class=' "$scratch/dom"; }
-hidden() { grep '<tr class=' "$scratch/dom" | grep -c 'hidden='; }
-count() { sed -n 's/.*<output id="count" role="status">\([^<]*\)<.*/\1/p' "$scratch/dom"; }
+# open PAGE: the page as the browser has it once the script ran, in $scratch/dom.
+open() { chrome --dump-dom "file://$1" >"$scratch/dom"; }
 
-./view --html examples/campus/expected examples/campus/links >"$scratch/page.html" || exit 2
+rows() { grep -o '<tr class=' "$scratch/dom" | wc -l; }
+count() { sed -n 's/.*<output id="count"[^>]*>\([^<]*\)<.*/\1/p' "$scratch/dom"; }
+told() { sed -n 's/.*<p id="told"[^>]*>\([^<]*\)<.*/\1/p' "$scratch/dom"; }
+
+# framed PAGE WIDTH: a page of that width in a frame (a window is no narrower than 500 pixels), with what a look at it finds as
+# data-probe of the frame.
+framed() {
+    python3 - "$1" "$2" <<'END'
+import html, pathlib, sys
+probe = r'''<script>
+(function () {
+  const wide = Array.from(document.querySelectorAll('body *')).filter(function (e) {
+    return e.getBoundingClientRect().right > innerWidth + 1 && !e.closest('#counts') && !e.closest('svg');
+  }).length;
+  const parts = function (c) { return c.match(/[\d.]+/g).map(Number); };
+  // Relative luminance and contrast, as WCAG 2 has them.
+  const light = function (c) {
+    const v = c.slice(0, 3).map(function (x) { x /= 255; return x <= 0.03928 ? x / 12.92 : Math.pow((x + 0.055) / 1.055, 2.4); });
+    return 0.2126 * v[0] + 0.7152 * v[1] + 0.0722 * v[2];
+  };
+  const back = function (e) {
+    for (; e; e = e.parentElement) {
+      const c = parts(getComputedStyle(e).backgroundColor);
+      if (c.length === 3 || c[3] > 0) return c;
+    }
+    return [255, 255, 255];
+  };
+  let least = 99;
+  for (const e of document.querySelectorAll('body *')) {
+    const texts = Array.from(e.childNodes).some(function (n) { return n.nodeType === 3 && n.textContent.trim() !== ''; });
+    if (!texts || e.tagName === 'SCRIPT' || e.tagName === 'NOSCRIPT') continue;
+    const style = getComputedStyle(e);
+    const a = light(parts(e.closest('svg') ? style.fill : style.color)), b = light(back(e));
+    least = Math.min(least, (Math.max(a, b) + 0.05) / (Math.min(a, b) + 0.05));
+  }
+  const still = Array.from(document.querySelectorAll('input, select, button, summary, [role=button]')).filter(function (e) {
+    return e.tabIndex < 0;
+  }).length;
+  const picture = document.querySelector('svg');
+  const high = picture !== null && picture.getBoundingClientRect().height > innerHeight / 3 + 1;
+  document.documentElement.dataset.probe = [innerWidth, 'wide ' + wide, least >= 4.5 ? 'contrast' : 'contrast ' + least.toFixed(2),
+    'unreachable ' + still, high ? 'high' : 'low'].join(', ');
+})();
+</script>'''
+page = pathlib.Path(sys.argv[1]).read_text().replace('</body>', probe + '</body>')
+print(f'<!doctype html><meta name="color-scheme" content="light dark"><body style="margin:0">'
+      f'<iframe style="border:0" width="{sys.argv[2]}" height="1200" srcdoc="{html.escape(page)}"></iframe>'
+      '<script>onload = function () { document.body.dataset.found = document.querySelector("iframe").contentDocument.documentElement.dataset.probe; };'
+      '</script></body>')
+END
+}
+
+./view --html --title 'old to new' examples/campus/expected examples/campus/links >"$scratch/page.html" || exit 2
 page=$scratch/page.html
 open "$page"
-check "title" "<title>What the change does to packets</title>" "$(grep -o '<title>.*</title>' "$scratch/dom")"
+check "title" "<title>old to new</title>" "$(grep -o '<title>.*</title>' "$scratch/dom")"
 check "count" "4 groups" "$(count)"
 check "rows" 4 "$(rows)"
-check "hidden rows" 0 "$(hidden)"
-check "devices" 11 "$(grep -c '<circle' "$scratch/dom")"
-check "devices in an outcome" 1 "$(grep -c 'class="device ends' "$scratch/dom")"
+check "devices" 11 "$(grep -c '<g role="button"' "$scratch/dom")"
+check "devices in an outcome" 1 "$(grep -c 'class="ends' "$scratch/dom")"
 check "console" 0 "$(grep -c 'CONSOLE' "$scratch/log")"
 
+# filter WORDS COUNT: the groups that are shown for words behind #, and that all were understood.
+filter() {
+    open "$page#${1// /%20}"
+    check "count at $1" "$2" "$(count)"
+    check "told at $1" "" "$(told)"
+    check "console at $1" 0 "$(grep -c 'CONSOLE' "$scratch/log")"
+}
 # The address of DC1 is in a group of each ingress, one of BRANCH in both groups of BRANCH, and another one in none.
-open "$page#10.30.20.1"
-check "count at 10.30.20.1" "2 of 4 groups" "$(count)"
-check "hidden rows at 10.30.20.1" 2 "$(hidden)"
-open "$page#10.40.0.7"
-check "count at 10.40.0.7" "2 of 4 groups" "$(count)"
-open "$page#10.30.20.255"
-check "count at 10.30.20.255" "0 of 4 groups" "$(count)"
-check "console at an address" 0 "$(grep -c 'CONSOLE' "$scratch/log")"
+filter 10.30.20.1 "2 of 4 groups"
+filter 10.40.0.7 "2 of 4 groups"
+filter 10.30.20.255 "0 of 4 groups"
+filter 10.30.0.0/16 "4 groups"
+filter 10.31.0.0/16 "0 of 4 groups"
+filter "443 branch" "2 of 4 groups"
+filter "tcp local" "2 of 4 groups"
+filter "udp acc1" "0 of 4 groups"
+open "$page#10.30.20.1%20nowhere"
+check "count of what isn't understood" "0 of 4 groups" "$(count)"
+check "what isn't understood is told" "Not understood: nowhere" "$(told)"
 
-# Names are shown, and mean nothing.
-printf 'ingress <b>"R1" &amp;'\''x rows 1\ndst * src * proto * dport * sport * flags *\nold drop\nnew expired\naffected 1\n' >"$scratch/names"
-./view --html "$scratch/names" >"$scratch/names.html" || exit 2
+# Names are shown, and mean nothing, in the table and among the groups that are opened on demand.
+{
+    printf 'ingress <b>"R1" &amp;'\''x rows 300\n'
+    for k in $(seq 0 299); do
+        printf 'dst 10.%s.%s.1 src * proto %s dport * sport * flags *\nold drop\nnew exit R%s <script>1</script>\n' $((k / 250)) $((k % 250)) $((k % 2 * 11 + 6)) "$k"
+    done
+    printf 'affected 300\n'
+} >"$scratch/names"
+./view --html --title '</title><b>"&' "$scratch/names" >"$scratch/names.html" || exit 2
 open "$scratch/names.html"
 check "no element of a name" 0 "$(grep -c '<b>' "$scratch/dom")"
-check "a name as it is" 2 "$(grep -o '&lt;b&gt;"R1" &amp;amp;'"'"'x' "$scratch/dom" | wc -l)"
+check "groups on demand" "300 groups" "$(count)"
+check "all groups" 300 "$(rows)"
+check "a name as it is" 300 "$(grep -o 'R[0-9]* &lt;script&gt;1&lt;/<wbr>script&gt;' "$scratch/dom" | wc -l)"
 check "console of names" 0 "$(grep -c 'CONSOLE' "$scratch/log")"
+
+for width in 1400 400; do
+    framed "$page" "$width" >"$scratch/frame.html"
+    for scheme in light dark; do
+        # (Blink's own numbers for the schemes)
+        number=1
+        [ "$scheme" = dark ] && number=0
+        options=(--window-size=1400,1200 --blink-settings=preferredColorScheme=$number)
+        chrome "${options[@]}" --dump-dom "file://$scratch/frame.html" >"$scratch/dom"
+        check "$width pixels, $scheme" "$width, wide 0, contrast, unreachable 0, low" "$(sed -n 's/.*<body[^>]*data-found="\([^"]*\)".*/\1/p' "$scratch/dom")"
+        if [ -n "$pictures" ]; then
+            [ "$width" = 400 ] && options[0]=--window-size=500,1200
+            chrome "${options[@]}" --screenshot="$pictures/page-$width-$scheme.png" "file://$scratch/frame.html"
+        fi
+    done
+done
+if [ -n "$pictures" ] && command -v pdftoppm >/dev/null; then
+    chrome --no-pdf-header-footer --print-to-pdf="$scratch/page.pdf" "file://$page"
+    pdftoppm -singlefile -r 80 -png "$scratch/page.pdf" "$pictures/page-printed"
+fi
 
 echo "$passed passed, $failed failed"
 [ "$failed" = 0 ]

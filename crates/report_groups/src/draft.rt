@@ -1,6 +1,6 @@
 //! Groups while they are made.
 ghost use Rattle.std.specs.Prelude.{◌≡◌, ◌<◌, length, map, IfOk, OnOk};
-ghost use Rattle.report_groups.specs.Groups.{field_at, with_field, without};
+ghost use Rattle.report_groups.specs.Groups.{field_at, with_field, without, HasFields};
 ghost use Rattle.report_groups.specs.Drafts.{shown};
 
 use crate::types::{Draft, Group, Pattern};
@@ -27,7 +27,8 @@ pub(crate) fn put_field(draft: &mut Draft, k: usize, patterns: Vec<Pattern>)
 
 /// The draft as a group.
 pub(crate) fn finished(alloc: Global, draft: Draft) -> Result<Group, NoMemory>
-    ensures { IfOk result (λ group. group ≡ shown draft) }
+    ensures is { IfOk result (λ group. group ≡ shown draft) }
+    ensures six { IfOk result HasFields }
 {
     let Draft {
         fields,

@@ -1,39 +1,56 @@
 //! The rows of an ingress as groups.
-ghost use Rattle.std.specs.Prelude.{◌≡◌, [], ◌∷◌, map, IfOk};
-ghost use Rattle.std.specs.List.{AllByRecursion};
-ghost use Rattle.report_groups.specs.Groups.{IsGrouping, cells_of, cell_of, patterns_with};
+ghost use Rattle.std.specs.Prelude.{◌≡◌, [], ◌∷◌, map, All, IfOk};
+ghost use Rattle.report_groups.specs.Groups.{cells_of, cell_of, patterns_with};
 ghost use Rattle.report_groups.specs.Drafts.{shown, JoinsBelow, Settles};
+ghost use Rattle.report_groups.specs.Entries.{IsEntry, AreEntries};
 
+use crate::change::change_of;
 use crate::draft::finished;
 use crate::joining::join;
-use crate::types::{Draft, Group, Pattern};
+use crate::shown::shown_of;
+use crate::types::{Draft, Entry, Pattern};
 use hdr_bits::Header;
 use net_types::{NoMemory, Row};
 use std::alloc::Global;
 
-/// The rows of one ingress, joined as far as they can be.
+/// The rows of one ingress, joined as far as they can be, each group with what is shown of it.
 ///
 /// Groups with equal outcomes that are equal in five of the six fields are joined in the sixth, until there are none.
 /// What the groups stand for are exactly the rows: none is left out, and none is in two groups. In which order groups and
 /// the patterns of a field stand isn't promised.
-pub fn group_rows(alloc: Global, rows: &[Row]) -> Result<Vec<Group>, NoMemory>
-    ensures { IfOk result (λ groups. IsGrouping rows.now groups.items) }
+pub fn group_rows(alloc: Global, rows: &[Row]) -> Result<Vec<Entry>, NoMemory>
+    ensures { IfOk result (λ entries. AreEntries rows.now entries.items) }
 {
     let drafts = drafts_of(alloc, rows)?;
     let settled = settle(alloc, drafts)?;
-    let groups = finish(alloc, settled)?;
-    Ok(groups)
+    let entries = finish(alloc, settled)?;
+    Ok(entries)
 }
 
-fn finish(alloc: Global, drafts: Vec<Draft>) -> Result<Vec<Group>, NoMemory>
-    ensures { IfOk result (λ groups. groups.items ≡ map shown drafts.items) }
+fn finish(alloc: Global, drafts: Vec<Draft>) -> Result<Vec<Entry>, NoMemory>
+    ensures groups { IfOk result (λ entries. map (λ e. e.group) entries.items ≡ map shown drafts.items) }
+    ensures each { IfOk result (λ entries. All IsEntry entries.items) }
 {
-    let mut groups = Vec::with_capacity(alloc, drafts.len())?;
+    let mut entries = Vec::with_capacity(alloc, drafts.len())?;
     for draft in drafts {
-        let group = finished(alloc, draft)?;
-        groups.push(group)?;
+        let entry = entry_of(alloc, draft)?;
+        entries.push(entry)?;
     }
-    Ok(groups)
+    Ok(entries)
+}
+
+// The group of a draft, with what is shown of it.
+fn entry_of(alloc: Global, draft: Draft) -> Result<Entry, NoMemory>
+    ensures group { IfOk result (λ e. e.group ≡ shown draft) }
+    ensures shows { IfOk result IsEntry }
+{
+    let group = finished(alloc, draft)?;
+    let shown = shown_of(alloc, &group)?;
+    Ok(Entry {
+        change: change_of(group.old.as_slice(), group.new.as_slice()),
+        shown,
+        group,
+    })
 }
 
 // A group for each row.

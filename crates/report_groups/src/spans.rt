@@ -1,26 +1,58 @@
 //! Patterns as spans of values.
-ghost use Rattle.std.specs.Prelude.{◌≡◌, ◌≤◌, ◌<◌, ◌^◌, ◌||◌, ℕ, IfOk, IfSome};
+ghost use Rattle.std.specs.Prelude.{◌≡◌, ◌≤◌, ◌<◌, ◌^◌, ◌||◌, ℕ, true, IsTrue, IfOk, IfSome};
 ghost use Rattle.std.specs.List.{list_any};
-ghost use Rattle.report_groups.specs.Values.{matches, covers, HoldSame};
+ghost use Rattle.report_groups.specs.Values.{matches, covers, is_listed, holds, HoldSame, StandFor};
 
+use crate::gaps::spans_between;
+use crate::parts::listed;
 use crate::types::{Pattern, Span, Values};
-use net_types::{List, NoMemory};
+use net_types::NoMemory;
 use std::alloc::Global;
 
-/// The values of a field of `width` bits, 0 to 32, as spans and further patterns: they hold exactly the values that the patterns
-/// hold.
+/// The values of a field of `width` bits, 0 to 32, as a person reads them: exactly those that the patterns hold.
 ///
 /// How the values are divided isn't promised.
-pub fn values_of(alloc: Global, patterns: &[Pattern], width: u32) -> Result<Values, NoMemory>
+pub(crate) fn values_of(alloc: Global, patterns: &[Pattern], width: u32) -> Result<Values, NoMemory>
     requires { width ≤ 32 }
-    ensures { IfOk result (λ values. HoldSame width patterns.now values.spans values.others) }
+    ensures { IfOk result (λ values. StandFor width patterns.now values) }
 {
     let (found, others) = parted(alloc, patterns, width)?;
     let spans = joined(alloc, found)?;
-    Ok(Values {
-        spans: List::new(spans),
-        others: List::new(others),
-    })
+    if is_whole(&spans, width) {
+        return listed(alloc, false, &spans, &[]);
+    }
+    shorter(alloc, &spans, &others, width)
+}
+
+// Whether the spans are one that holds each value of `width` bits.
+fn is_whole(spans: &[Span], width: u32) -> bool
+    requires { width ≤ 32 }
+    ensures { IsTrue result → (v : ℕ) → v < 2 ^ width → list_any (covers v) spans.now ≡ true }
+{
+    match spans {
+        [only] => only.low == 0 && u64::from(only.high) + 1 == power(width),
+        _ => false,
+    }
+}
+
+// The values as they are listed, or all but those between them where these are fewer spans.
+fn shorter(
+    alloc: Global,
+    spans: &[Span],
+    others: &[Pattern],
+    width: u32,
+) -> Result<Values, NoMemory>
+    requires { width ≤ 32 }
+    ensures { IfOk result (λ values. (v : ℕ) → v < 2 ^ width → holds v values ≡ is_listed v spans.now others.now) }
+{
+    if others.is_empty() {
+        if let Some(between) = spans_between(alloc, spans, width)? {
+            if between.len() < spans.len() {
+                return listed(alloc, true, &between, &[]);
+            }
+        }
+    }
+    listed(alloc, false, spans, others)
 }
 
 // The span of each pattern that is one, and the others. Which they are is for the reader's sake, and no clause says it.
@@ -79,7 +111,7 @@ fn span_with(pattern: &Pattern, width: u32, free: u32) -> Option<Span>
 
 // Two to the `k`.
 #[tactic(auto, using(crate::proofs::SpanLemmas::power_room))]
-fn power(k: u32) -> u64
+pub(crate) fn power(k: u32) -> u64
     requires { k ≤ 32 }
     ensures value { result ≡ 2 ^ k }
     ensures some { 0 < result }

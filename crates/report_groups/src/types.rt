@@ -24,6 +24,16 @@ pub struct Group {
     pub new: List<Outcome>,
 }
 
+/// A group as a person reads it.
+#[derive(Drop)]
+pub struct Entry {
+    /// What the change does to its packets.
+    pub change: Change,
+    /// Its headers.
+    pub shown: Shown,
+    pub group: Group,
+}
+
 /// A group, with lists that can be taken out.
 #[derive(Drop, PartialEq, Eq, Hash)]
 pub(crate) struct Draft {
@@ -40,13 +50,43 @@ pub struct Span {
     pub high: u32,
 }
 
-/// The values of a field as a person reads them.
+/// Some values of a field, as a person reads them.
+#[derive(Clone, Copy, Debug, PartialEq, Eq)]
+pub enum Part {
+    /// Values that follow each other.
+    Run(Span),
+    /// What is given by its bits.
+    Masked(Pattern),
+}
+
+/// The values of a field as a person reads them: those of its parts, or all but these.
 #[derive(Drop)]
 pub struct Values {
-    /// Values that follow each other.
-    pub spans: List<Span>,
-    /// What is given by its bits.
-    pub others: List<Pattern>,
+    /// Whether all values are meant but those of the parts.
+    pub negated: bool,
+    pub parts: List<Part>,
+}
+
+/// TCP's flags as a person reads them.
+#[derive(Drop)]
+pub enum Flags {
+    /// ACK or RST is set, as an entry with `established` asks.
+    Established,
+    /// Neither is.
+    NotEstablished,
+    /// Those that match a pattern.
+    Matching(List<Pattern>),
+}
+
+/// The six fields of a group as a person reads them.
+#[derive(Drop)]
+pub struct Shown {
+    pub dst: Values,
+    pub src: Values,
+    pub proto: Values,
+    pub dport: Values,
+    pub sport: Values,
+    pub flags: Flags,
 }
 
 /// What a change does to packets.

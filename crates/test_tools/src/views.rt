@@ -30,6 +30,7 @@ fn texts(alloc: Global, report: &[u8]) -> Result<MemFiles, Stop> {
 pub(crate) fn show<R: Threads + Wait + Sync>(rt: &HostRuntime, threads: &R) -> Result<(), Stop> {
     show_words(rt, threads)?;
     show_reports(rt, threads)?;
+    show_forms(rt, threads)?;
     show_page(rt, threads)?;
     show_rooms(rt, threads)?;
     show_faults(rt, threads)
@@ -37,12 +38,19 @@ pub(crate) fn show<R: Threads + Wait + Sync>(rt: &HostRuntime, threads: &R) -> R
 
 fn show_words<R: Threads + Wait + Sync>(rt: &HostRuntime, threads: &R) -> Result<(), Stop> {
     println!(rt; "== words of a view")?;
-    let cases: [&[&str]; 7] = [
+    let cases: [&[&str]; 14] = [
         &[],
+        &["--help"],
+        &["--version"],
+        &["--help", "report"],
         &["--html"],
         &["report", "links"],
         &["--text", "report"],
+        &["--title", "report"],
+        &["--json", "--title", "old to new", "report"],
+        &["--json", "report", "links"],
         &["none"],
+        &["--csv", "none"],
         &["--html", "report", "none"],
         &["--html", "report", "wrong"],
     ];
@@ -72,10 +80,25 @@ fn show_reports<R: Threads + Wait + Sync>(rt: &HostRuntime, threads: &R) -> Resu
     let mut files = texts(rt.alloc(), REPORT)?;
     files.at_most(1);
     show_run(rt, threads, Program::View, &mut files, &["report"], ROOM)?;
-    println!(rt; "== a file of 16777217 bytes")?;
+    println!(rt; "== a text that is longer than other files may be, and no report")?;
     let long = vec![in rt.alloc(); b'!'; 16_777_217]?;
     let mut files = texts(rt.alloc(), &long)?;
     show_run(rt, threads, Program::View, &mut files, &["report"], ROOM)
+}
+
+// A title, a document and a table.
+fn show_forms<R: Threads + Wait + Sync>(rt: &HostRuntime, threads: &R) -> Result<(), Stop> {
+    println!(rt; "== other forms")?;
+    let cases: [&[&str]; 3] = [
+        &["--title", "old to new", "report"],
+        &["--json", "report"],
+        &["--csv", "report"],
+    ];
+    let mut files = texts(rt.alloc(), REPORT)?;
+    for words in cases {
+        show_run(rt, threads, Program::View, &mut files, words, ROOM)?;
+    }
+    Ok(())
 }
 
 // Of a page its beginning and its end.

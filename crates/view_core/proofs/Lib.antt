@@ -2,3 +2,5 @@ pub mod OwnNames
 pub mod Reports
 pub mod Escapes
 pub mod Asked
+pub mod PageLemmas
+pub mod Joined

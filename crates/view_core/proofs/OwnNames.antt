@@ -1,10 +1,9 @@
 -- The words of a text are names.
-use Rattle.std.proofs.Common.{◌≡◌, ℕ, Bool, true, false, cond, not, ◌||◌, List, [], ◌∷◌, ◌++◌, map, refl, sym, ap, subst, ◌∙◌}
-use Rattle.std.specs.Prelude.{filter, fold}
-use Rattle.std.specs.List.{flat_map, AllByRecursion, slice_split, onto_first}
+use Rattle.std.proofs.Common.{◌≡◌, ℕ, Bool, true, false, cond, not, ◌||◌, List, [], ◌∷◌, ◌++◌, refl, sym, ap, ◌∙◌}
+use Rattle.std.specs.Prelude.{filter}
+use Rattle.std.specs.List.{AllByRecursion, slice_split, onto_first}
 use Rattle.std.specs.declared.cmp.Ordering.TheVariants.{Less, Equal, Greater}
 use Rattle.std.proofs.lemmas.Grind.{flat_map-append, fold-append}
-use Rattle.std.proofs.lemmas.List.{map-append}
 use Rattle.net_text.specs.Lines.{is_line_end, is_separator}
 use Rattle.net_text.specs.Texts.{is_word, words, is_inside, IsWord}
 use Rattle.net_types.specs.Order.{put_in_order}

@@ -1,4 +1,11 @@
 pub mod Names
 pub mod Lines
+pub mod Words
+pub mod Reports
+pub mod Json
 pub mod Views
 pub mod Escape
+pub mod NumberNames
+pub mod FieldWords
+pub mod Markup
+pub mod Pages

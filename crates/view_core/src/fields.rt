@@ -1,16 +1,16 @@
 //! The fields of a group as a person reads them.
+ghost use Rattle.std.specs.Prelude.{◌≡◌, ◌++◌, ◌∷◌, [], ◌-◌, ◌≤◌, ◌^◌, ◌||◌, codes, OnOk};
+ghost use Rattle.std.specs.List.{join_by, list_all, list_any};
+ghost use Rattle.view_core.specs.FieldWords.{part_text, width_of, values_text, field_words, is_whole, is_open, is_only, is_served, service_with, service_of, is_icmp, source_kind, source_words, open_words, words_text};
 
-ghost use Rattle.std.specs.Prelude.{◌≤◌};
-
-use crate::append::{append, append_number};
-use crate::labels::{Service, icmp_code, icmp_type, port, protocol};
+use crate::addresses::{append_address_part, power};
+use crate::append::append;
+use crate::flags::append_flags;
+use crate::labels::Service;
+use crate::numbers::{append_message_part, append_port_part, append_protocol_part};
 use net_types::NoMemory;
-use report_groups::{Group, Pattern, Span, values_of};
-use report_text::address_bytes;
+use report_groups::{Part, Shown, Values};
 use std::alloc::Global;
-
-// A protocol that is fixed, and the protocols whose ports have names or stand for messages.
-const ALL_BITS: u32 = 255;
 
 const ICMP: u32 = 1;
 
@@ -18,278 +18,232 @@ const TCP: u32 = 6;
 
 const UDP: u32 = 17;
 
-// The codes of an ICMP type: a message is a type times this, and a code.
-const CODES: u32 = 256;
-
 /// What the numbers of a field are.
 #[derive(Clone, Copy, PartialEq, Eq)]
-enum Kind {
+pub(crate) enum Kind {
     Address,
     Protocol,
     Port(Service),
     Message,
 }
 
-/// The fields of a group that aren't open, each behind its name, with two blanks between them.
-pub(crate) fn append_fields(
+/// The fields of a group that aren't open, each behind its name with two blanks before it; or that any header is in it.
+#[tactic(auto, unfolding(crate::specs::FieldWords::words_text))]
+pub(crate) fn append_fields(alloc: Global, out: &mut Vec<u8>, shown: &Shown) -> Result<(), NoMemory>
+    ensures { OnOk result (out.new.items ≡ out.old.items ++ words_text shown.now) }
+{
+    let mut words = Vec::new(alloc);
+    append_open(alloc, &mut words, shown)?;
+    if words.is_empty() {
+        append(out, b"  any header")
+    } else {
+        append(out, &words)
+    }
+}
+
+#[tactic(auto, unfolding(crate::specs::FieldWords::open_words))]
+fn append_open(alloc: Global, out: &mut Vec<u8>, shown: &Shown) -> Result<(), NoMemory>
+    ensures { OnOk result (out.new.items ≡ out.old.items ++ open_words shown.now) }
+{
+    let ports = Kind::Port(service_of(&shown.proto));
+    append_field(alloc, out, b"  dst ", &shown.dst, Kind::Address)?;
+    append_field(alloc, out, b"  src ", &shown.src, Kind::Address)?;
+    append_field(alloc, out, b"  ", &shown.proto, Kind::Protocol)?;
+    append_field(alloc, out, b"  dport ", &shown.dport, ports)?;
+    append_source(alloc, out, shown)?;
+    append_flags(out, &shown.flags)
+}
+
+fn append_source(alloc: Global, out: &mut Vec<u8>, shown: &Shown) -> Result<(), NoMemory>
+    ensures { OnOk result (out.new.items ≡ out.old.items ++ source_words shown.now) }
+{
+    let kind = source_kind(&shown.proto);
+    if is_icmp(&shown.proto) {
+        append_field(alloc, out, b"  ", &shown.sport, kind)
+    } else {
+        append_field(alloc, out, b"  sport ", &shown.sport, kind)
+    }
+}
+
+/// What the numbers of the source port are.
+pub(crate) fn source_kind(proto: &Values) -> Kind
+    ensures { result ≡ source_kind proto.now }
+{
+    if is_icmp(proto) {
+        Kind::Message
+    } else {
+        Kind::Port(service_of(proto))
+    }
+}
+
+// A field behind its name, where it isn't open.
+fn append_field(
     alloc: Global,
     out: &mut Vec<u8>,
-    group: &Group,
-) -> Result<(), NoMemory> {
-    let [dst, src, proto, dport, sport, flags] = group.fields.as_slice() else {
+    name: &[u8],
+    values: &Values,
+    kind: Kind,
+) -> Result<(), NoMemory>
+    ensures { OnOk result (out.new.items ≡ out.old.items ++ field_words name.now kind values.now) }
+{
+    if is_open(width_of(kind), values) {
+        return Ok(());
+    }
+    append(out, name)?;
+    append_values(alloc, out, values, kind)
+}
+
+/// The parts of what is shown of a field.
+#[tactic(auto, unfolding(crate::specs::FieldWords::values_text))]
+pub(crate) fn append_values(
+    alloc: Global,
+    out: &mut Vec<u8>,
+    values: &Values,
+    kind: Kind,
+) -> Result<(), NoMemory>
+    ensures { OnOk result (out.new.items ≡ out.old.items ++ values_text kind values.now) }
+{
+    let parts = values.parts.as_slice();
+    if values.negated {
+        append(out, b"not ")?;
+        append_parts(alloc, out, b" nor ", parts, kind)
+    } else {
+        append_parts(alloc, out, b", ", parts, kind)
+    }
+}
+
+// Parts with words between them.
+fn append_parts(
+    alloc: Global,
+    out: &mut Vec<u8>,
+    between: &[u8],
+    parts: &[Part],
+    kind: Kind,
+) -> Result<(), NoMemory>
+    ensures { OnOk result (out.new.items ≡ out.old.items ++ join_by (part_text kind) between.now parts.now) }
+{
+    let [first, rest @ ..] = parts else {
         return Ok(());
     };
-    let start = out.len();
-    append_field(alloc, out, b"  dst ", dst.as_slice(), 32, Kind::Address)?;
-    append_field(alloc, out, b"  src ", src.as_slice(), 32, Kind::Address)?;
-    append_field(alloc, out, b"  ", proto.as_slice(), 8, Kind::Protocol)?;
-    append_ports(
-        alloc,
-        out,
-        dport.as_slice(),
-        sport.as_slice(),
-        proto.as_slice(),
-    )?;
-    append_flags(out, flags.as_slice())?;
-    if out.len() == start {
-        append(out, b"  any header")?;
+    append_part(alloc, out, first, kind)?;
+    for part in rest {
+        append(out, between)?;
+        append_part(alloc, out, part, kind)?;
     }
     Ok(())
 }
 
-fn append_ports(
-    alloc: Global,
-    out: &mut Vec<u8>,
-    dport: &[Pattern],
-    sport: &[Pattern],
-    proto: &[Pattern],
-) -> Result<(), NoMemory> {
-    let ports = Kind::Port(service_of(proto));
-    append_field(alloc, out, b"  dport ", dport, 16, ports)?;
-    if is_only_icmp(proto) {
-        append_field(alloc, out, b"  ", sport, 16, Kind::Message)
+fn append_part(alloc: Global, out: &mut Vec<u8>, part: &Part, kind: Kind) -> Result<(), NoMemory>
+    ensures { OnOk result (out.new.items ≡ out.old.items ++ part_text kind part.now) }
+{
+    match kind {
+        Kind::Address => append_address_part(alloc, out, part),
+        Kind::Protocol => append_protocol_part(out, part),
+        Kind::Port(service) => append_port_part(out, service, part),
+        Kind::Message => append_message_part(out, part),
+    }
+}
+
+/// How many bits a field has.
+pub(crate) fn width_of(kind: Kind) -> u32
+    ensures value { result ≡ width_of kind }
+    ensures most { result ≤ 32 }
+{
+    match kind {
+        Kind::Address => 32,
+        Kind::Protocol => 8,
+        Kind::Port(_) => 16,
+        Kind::Message => 16,
+    }
+}
+
+/// Whether all values of so many bits are meant.
+pub(crate) fn is_open(width: u32, values: &Values) -> bool
+    requires { width ≤ 32 }
+    ensures { result ≡ is_open width values.now }
+{
+    !values.negated && is_any_whole(width, values.parts.as_slice())
+}
+
+fn is_any_whole(width: u32, parts: &[Part]) -> bool
+    requires { width ≤ 32 }
+    ensures { result ≡ list_any (is_whole width) parts.now }
+{
+    parts.iter().any(|p| is_whole(width, p))
+}
+
+fn is_whole(width: u32, part: &Part) -> bool
+    requires { width ≤ 32 }
+    ensures { result ≡ is_whole width part.now }
+{
+    match part {
+        Part::Run(span) => span.low == 0 && u64::from(span.high) == power(width) - 1,
+        Part::Masked(_) => false,
+    }
+}
+
+// Whether a part is this number alone.
+fn is_only(number: u32, part: &Part) -> bool
+    ensures { result ≡ is_only number part.now }
+{
+    match part {
+        Part::Run(span) => span.low == number && span.high == number,
+        Part::Masked(_) => false,
+    }
+}
+
+// Whether ICMP is the only protocol.
+fn is_icmp(proto: &Values) -> bool
+    ensures { result ≡ is_icmp proto.now }
+{
+    let parts = proto.parts.as_slice();
+    !proto.negated && parts.len() == 1 && are_only(ICMP, parts)
+}
+
+fn are_only(number: u32, parts: &[Part]) -> bool
+    ensures { result ≡ list_all (is_only number) parts.now }
+{
+    parts.iter().all(|p| is_only(number, p))
+}
+
+fn is_any_only(number: u32, parts: &[Part]) -> bool
+    ensures { result ≡ list_any (is_only number) parts.now }
+{
+    parts.iter().any(|p| is_only(number, p))
+}
+
+fn are_served(parts: &[Part]) -> bool
+    ensures { result ≡ list_all is_served parts.now }
+{
+    parts.iter().all(|p| is_served(p))
+}
+
+// Whether a part is TCP or UDP.
+fn is_served(part: &Part) -> bool
+    ensures { result ≡ is_served part.now }
+{
+    is_only(TCP, part) || is_only(UDP, part)
+}
+
+/// Whose names the ports have: those of TCP, of UDP, or of both where each protocol is one of these.
+pub(crate) fn service_of(proto: &Values) -> Service
+    ensures { result ≡ service_of proto.now }
+{
+    let parts = proto.parts.as_slice();
+    if !proto.negated && are_served(parts) {
+        service_with(is_any_only(TCP, parts), is_any_only(UDP, parts))
     } else {
-        append_field(alloc, out, b"  sport ", sport, 16, ports)
+        Service::Unknown
     }
 }
 
-fn is_only_icmp(proto: &[Pattern]) -> bool {
-    match proto {
-        [only] => is_fixed(only, ICMP),
-        _ => false,
-    }
-}
-
-fn is_fixed(pattern: &Pattern, protocol: u32) -> bool {
-    pattern.fixed == ALL_BITS && pattern.bits == protocol
-}
-
-// Whose names the ports have: those of all protocols, where each is TCP or UDP.
-fn service_of(proto: &[Pattern]) -> Service {
-    if !proto.iter().all(|p| is_fixed(p, TCP) || is_fixed(p, UDP)) {
-        return Service::Unknown;
-    }
-    let tcp = proto.iter().any(|p| is_fixed(p, TCP));
-    let udp = proto.iter().any(|p| is_fixed(p, UDP));
+fn service_with(tcp: bool, udp: bool) -> Service
+    ensures { result ≡ service_with tcp udp }
+{
     match (tcp, udp) {
         (true, true) => Service::Both,
         (true, false) => Service::Tcp,
         (false, true) => Service::Udp,
         (false, false) => Service::Unknown,
     }
-}
-
-// A field of `width` bits behind its name, where it isn't open.
-fn append_field(
-    alloc: Global,
-    out: &mut Vec<u8>,
-    name: &[u8],
-    patterns: &[Pattern],
-    width: u32,
-    kind: Kind,
-) -> Result<(), NoMemory>
-    requires { width ≤ 32 }
-{
-    if is_open(patterns) {
-        return Ok(());
-    }
-    let values = values_of(alloc, patterns, width)?;
-    append(out, name)?;
-    let mut first = true;
-    for span in values.spans.as_slice() {
-        append_comma(out, first)?;
-        append_span(alloc, out, *span, kind)?;
-        first = false;
-    }
-    for pattern in values.others.as_slice() {
-        append_comma(out, first)?;
-        append_digits(out, pattern, width)?;
-        first = false;
-    }
-    Ok(())
-}
-
-// Whether some pattern holds every value.
-fn is_open(patterns: &[Pattern]) -> bool {
-    patterns.iter().any(|p| p.fixed == 0)
-}
-
-fn append_comma(out: &mut Vec<u8>, first: bool) -> Result<(), NoMemory> {
-    if first { Ok(()) } else { append(out, b", ") }
-}
-
-fn append_span(alloc: Global, out: &mut Vec<u8>, span: Span, kind: Kind) -> Result<(), NoMemory> {
-    match kind {
-        Kind::Address => append_addresses(alloc, out, span),
-        Kind::Protocol => append_protocols(out, span),
-        Kind::Port(service) => append_port_span(out, span, service),
-        Kind::Message => append_messages(out, span),
-    }
-}
-
-fn append_address(alloc: Global, out: &mut Vec<u8>, address: u32) -> Result<(), NoMemory> {
-    let text = address_bytes(alloc, address)?;
-    append(out, &text)
-}
-
-// One address, a prefix, or the first and the last one.
-fn append_addresses(alloc: Global, out: &mut Vec<u8>, span: Span) -> Result<(), NoMemory> {
-    append_address(alloc, out, span.low)?;
-    if span.low == span.high {
-        return Ok(());
-    }
-    if let Some(length) = prefix_length(span) {
-        append(out, b"/")?;
-        return append_number(out, length);
-    }
-    append(out, b" - ")?;
-    append_address(alloc, out, span.high)
-}
-
-// The length of the prefix that a span is.
-fn prefix_length(span: Span) -> Option<u32> {
-    let free = span.low ^ span.high;
-    if free & free.wrapping_add(1) == 0 && span.low & free == 0 {
-        Some(free.leading_zeros())
-    } else {
-        None
-    }
-}
-
-fn append_protocols(out: &mut Vec<u8>, span: Span) -> Result<(), NoMemory> {
-    if span.low == span.high {
-        if let Some(name) = protocol(span.low) {
-            return append(out, name);
-        }
-    }
-    append(out, b"proto ")?;
-    append_range(out, span)
-}
-
-fn append_port_span(out: &mut Vec<u8>, span: Span, service: Service) -> Result<(), NoMemory> {
-    append_range(out, span)?;
-    if span.low != span.high {
-        return Ok(());
-    }
-    let Some(name) = port(span.low, service) else {
-        return Ok(());
-    };
-    append(out, b" (")?;
-    append(out, name)?;
-    append(out, b")")
-}
-
-// ICMP messages: a type with all its codes, or a code.
-fn append_messages(out: &mut Vec<u8>, span: Span) -> Result<(), NoMemory> {
-    let kind = span.low / CODES;
-    let code = span.low % CODES;
-    if code == 0 && span.high == span.low.saturating_add(CODES - 1) {
-        if let Some(name) = icmp_type(kind) {
-            return append(out, name);
-        }
-        append(out, b"icmp type ")?;
-        return append_number(out, kind);
-    }
-    if span.low != span.high {
-        append(out, b"icmp type*256+code ")?;
-        return append_range(out, span);
-    }
-    if let Some(name) = icmp_code(kind, code) {
-        return append(out, name);
-    }
-    append(out, b"icmp type ")?;
-    append_number(out, kind)?;
-    append(out, b" code ")?;
-    append_number(out, code)
-}
-
-// The number, or the first and the last one.
-fn append_range(out: &mut Vec<u8>, span: Span) -> Result<(), NoMemory> {
-    append_number(out, span.low)?;
-    if span.low == span.high {
-        return Ok(());
-    }
-    append(out, b" - ")?;
-    append_number(out, span.high)
-}
-
-// The digits of a pattern, the most significant one first.
-fn append_digits(out: &mut Vec<u8>, pattern: &Pattern, width: u32) -> Result<(), NoMemory>
-    requires { width ≤ 32 }
-{
-    for k in (0..width).rev() {
-        let digit: &[u8] = if pattern.fixed >> k & 1 == 0 {
-            b"*"
-        } else if pattern.bits >> k & 1 == 0 {
-            b"0"
-        } else {
-            b"1"
-        };
-        append(out, digit)?;
-    }
-    Ok(())
-}
-
-// Flags by name: those that are set, and behind `no` those that aren't.
-fn append_flags(out: &mut Vec<u8>, patterns: &[Pattern]) -> Result<(), NoMemory> {
-    if is_open(patterns) {
-        return Ok(());
-    }
-    append(out, b"  flags")?;
-    let mut first = true;
-    for pattern in patterns {
-        if !first {
-            append(out, b",")?;
-        }
-        append_flag_names(out, pattern)?;
-        first = false;
-    }
-    Ok(())
-}
-
-fn append_flag_names(out: &mut Vec<u8>, pattern: &Pattern) -> Result<(), NoMemory> {
-    let names: [(u32, &[u8]); 8] = [
-        (128, b"bit7"),
-        (64, b"bit6"),
-        (32, b"urg"),
-        (16, b"ack"),
-        (8, b"psh"),
-        (4, b"rst"),
-        (2, b"syn"),
-        (1, b"fin"),
-    ];
-    for (bit, name) in &names {
-        if pattern.fixed & *bit != 0 {
-            append_flag(out, *name, pattern.bits & *bit != 0)?;
-        }
-    }
-    Ok(())
-}
-
-fn append_flag(out: &mut Vec<u8>, name: &[u8], set: bool) -> Result<(), NoMemory> {
-    append(out, b" ")?;
-    if !set {
-        append(out, b"no ")?;
-    }
-    append(out, name)
 }

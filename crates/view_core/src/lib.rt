@@ -4,19 +4,30 @@
 //! and the outcomes in the two networks. `view_run` is the program on any files and sinks.
 #![tactic(auto)]
 
+mod addresses;
 mod append;
+mod csv;
 mod escape;
 mod faults;
+mod field_text;
 mod fields;
+mod flags;
+mod json;
 mod labels;
+mod layout;
+mod markup;
 mod names;
+mod numbers;
 mod page;
 mod picture;
-mod script;
+mod reading;
+mod sheet;
 mod summary;
+mod table;
 mod text;
 mod top;
 mod words;
 
 pub use escape::escaped_is_plain;
 pub use top::view_run;
+pub use words::{Format, Manner};

@@ -4,7 +4,7 @@ use crate::append::{append, append_number};
 use crate::text::{ORDER, change_name};
 use indexmap::IndexMap;
 use net_types::{Names, NoMemory};
-use report_groups::{Change, Group};
+use report_groups::{Change, Entry, Group};
 use report_text::outcome_bytes;
 use std::alloc::Global;
 
@@ -18,8 +18,8 @@ pub(crate) struct Count {
 /// Counts of changes and of outcomes.
 #[derive(Drop)]
 pub(crate) struct Counts {
-    // In the order of `ORDER`.
-    changes: [u64; 5],
+    /// In the order of `ORDER`.
+    pub(crate) changes: [u64; 5],
     // By `old OUTCOME` and `new OUTCOME`.
     outcomes: IndexMap<Vec<u8>, Count>,
 }
@@ -37,15 +37,11 @@ impl Counts {
         &mut self,
         alloc: Global,
         names: &Names,
-        group: &Group,
-        change: Change,
+        entry: &Entry,
     ) -> Result<(), NoMemory> {
+        let group = &entry.group;
         let rows = row_count(group);
-        for k in 0..5 {
-            if ORDER[k] == change {
-                self.changes[k] = self.changes[k].saturating_add(1);
-            }
-        }
+        count_change(&mut self.changes, entry.change);
         for outcome in group.old.as_slice() {
             let text = outcome_bytes(alloc, names, outcome)?;
             add_count(&mut self.outcomes, keyed(alloc, b"old ", &text)?, rows)?;
@@ -88,8 +84,17 @@ fn add_count(
     Ok(())
 }
 
-// How many rows a group stands for.
-fn row_count(group: &Group) -> u64 {
+/// Counts a change of this kind.
+pub(crate) fn count_change(changes: &mut [u64; 5], change: Change) {
+    for k in 0..5 {
+        if ORDER[k] == change {
+            changes[k] = changes[k].saturating_add(1);
+        }
+    }
+}
+
+/// How many rows a group stands for.
+pub(crate) fn row_count(group: &Group) -> u64 {
     let mut rows: u64 = 1;
     for patterns in group.fields.as_slice() {
         rows = rows.saturating_mul(patterns.as_slice().len() as u64);
@@ -97,28 +102,22 @@ fn row_count(group: &Group) -> u64 {
     rows
 }
 
-/// The lines of the summary: one for each kind of change that there is, and one for each outcome in the order of its text.
-pub(crate) fn summary_bytes(alloc: Global, counts: &Counts) -> Result<Vec<u8>, NoMemory> {
-    let mut lines = Vec::new(alloc);
-    append_changes(&mut lines, counts)?;
-    append_outcomes(&mut lines, counts)?;
-    Ok(lines)
-}
-
-fn append_changes(out: &mut Vec<u8>, counts: &Counts) -> Result<(), NoMemory> {
+/// A line for each kind of change that there is.
+pub(crate) fn append_changes(out: &mut Vec<u8>, changes: &[u64; 5]) -> Result<(), NoMemory> {
     for k in 0..5 {
-        if counts.changes[k] > 0 {
+        if changes[k] > 0 {
             append(out, b"  ")?;
             append(out, change_name(ORDER[k]))?;
             append(out, b" ")?;
-            append_number(out, counts.changes[k])?;
+            append_number(out, changes[k])?;
             append(out, b"\n")?;
         }
     }
     Ok(())
 }
 
-fn append_outcomes(out: &mut Vec<u8>, counts: &Counts) -> Result<(), NoMemory> {
+/// A line for each outcome in the order of its text.
+pub(crate) fn append_outcome_counts(out: &mut Vec<u8>, counts: &Counts) -> Result<(), NoMemory> {
     for (text, count) in &counts.outcomes {
         append(out, b"  ")?;
         append(out, text)?;

@@ -1,12 +1,13 @@
 //! A report as text for a person.
-ghost use Rattle.std.specs.Prelude.{◌≡◌, ◌++◌, ℕ, false, length, IfOk, OnOk};
-ghost use Rattle.view_core.specs.Views.{IsView, summary_head};
+ghost use Rattle.std.specs.Prelude.{◌≡◌, ◌++◌, length, IfOk, OnOk};
+ghost use Rattle.report_text.specs.ReportText.{name_text};
+ghost use Rattle.view_core.specs.Views.{HasFront, title_line, summary_head};
 
 use crate::append::{append, append_number};
 use crate::fields::append_fields;
-use crate::summary::{Counts, summary_bytes};
-use net_types::{List, Names, NoMemory, Outcome, Place, Section};
-use report_groups::{Change, Group, change_of, group_rows};
+use crate::summary::{Counts, append_changes, append_outcome_counts, count_change};
+use net_types::{List, Names, NoMemory, Outcome, Place, Section, Text};
+use report_groups::{Change, Entry, group_rows};
 use report_text::outcome_bytes;
 use std::alloc::Global;
 
@@ -30,28 +31,32 @@ pub(crate) fn change_name(change: Change) -> &'static [u8] {
     }
 }
 
-/// The report as text: for each ingress its groups, loops and closings first, and a summary at the end.
+/// The report as text: its title where there is one, a summary, all loops, and for each ingress its groups.
 pub(crate) fn view_bytes(
     alloc: Global,
     names: &Names,
     sections: &[Section],
+    title: &Text,
 ) -> Result<Vec<u8>, NoMemory>
-    ensures { IfOk result (λ text. IsView false sections.now text.items) }
+    ensures { IfOk result (λ text. HasFront (title_line title.now ++ summary_head (length sections.now)) text.items) }
 {
+    let parts = parts_of(alloc, names, sections)?;
     let mut text = Vec::new(alloc);
-    let mut counts = Counts::new(alloc);
-    for section in sections {
-        append_section(alloc, &mut text, names, section, &mut counts)?;
-    }
-    counts.sort()?;
-    let summary = summary_bytes(alloc, &counts)?;
-    append_head(&mut text, sections.len())?;
-    append(&mut text, &summary)?;
+    append_head(&mut text, title.as_bytes(), sections.len())?;
+    append(&mut text, &parts)?;
     Ok(text)
 }
 
-// How many ingresses there are.
-fn append_head(out: &mut Vec<u8>, ingresses: usize) -> Result<(), NoMemory>
+// The title, and how many ingresses there are.
+fn append_head(out: &mut Vec<u8>, title: &[u8], ingresses: usize) -> Result<(), NoMemory>
+    ensures { OnOk result (out.new.items ≡ out.old.items ++ (title_line title.now ++ summary_head ingresses)) }
+{
+    append_title(out, title)?;
+    append_ingresses(out, ingresses)?;
+    Ok(())
+}
+
+fn append_ingresses(out: &mut Vec<u8>, ingresses: usize) -> Result<(), NoMemory>
     ensures { OnOk result (out.new.items ≡ out.old.items ++ summary_head ingresses) }
 {
     append(out, b"summary: ingresses ")?;
@@ -60,35 +65,143 @@ fn append_head(out: &mut Vec<u8>, ingresses: usize) -> Result<(), NoMemory>
     Ok(())
 }
 
-/// What each group does.
-pub(crate) fn changes_of(alloc: Global, groups: &[Group]) -> Result<Vec<Change>, NoMemory> {
-    let mut changes = Vec::with_capacity(alloc, groups.len())?;
-    for group in groups {
-        changes.push(change_of(group.old.as_slice(), group.new.as_slice()))?;
+fn append_title(out: &mut Vec<u8>, title: &[u8]) -> Result<(), NoMemory>
+    ensures { OnOk result (out.new.items ≡ out.old.items ++ title_line title.now) }
+{
+    if title.is_empty() {
+        return Ok(());
     }
-    Ok(changes)
+    append(out, title)?;
+    append(out, b"\n")
 }
 
-fn append_section(
+// What is written of the ingresses: their lines in the summary, all loops, and their groups.
+#[derive(Drop)]
+struct Parts {
+    counts: Counts,
+    places: Vec<u8>,
+    loops: Vec<u8>,
+    groups: Vec<u8>,
+    untouched: u64,
+}
+
+// What stands behind the head.
+fn parts_of(alloc: Global, names: &Names, sections: &[Section]) -> Result<Vec<u8>, NoMemory> {
+    let mut parts = Parts {
+        counts: Counts::new(alloc),
+        places: Vec::new(alloc),
+        loops: Vec::new(alloc),
+        groups: Vec::new(alloc),
+        untouched: 0,
+    };
+    for section in sections {
+        add_section(alloc, &mut parts, names, section)?;
+    }
+    parts.counts.sort()?;
+    let mut text = Vec::new(alloc);
+    append_summary(&mut text, &parts, sections.len())?;
+    if !parts.loops.is_empty() {
+        append(&mut text, b"loops\n")?;
+        append(&mut text, &parts.loops)?;
+        append(&mut text, b"\n")?;
+    }
+    append(&mut text, &parts.groups)?;
+    Ok(text)
+}
+
+// The counts by kind of change and by ingress, how many ingresses are untouched, and the counts by outcome.
+fn append_summary(out: &mut Vec<u8>, parts: &Parts, ingresses: usize) -> Result<(), NoMemory> {
+    if parts.untouched == ingresses as u64 {
+        append(out, b"  no packet is treated differently at any of ")?;
+        append_number(out, ingresses)?;
+        return append(out, b" ingresses\n\n");
+    }
+    append_changes(out, &parts.counts.changes)?;
+    append(out, &parts.places)?;
+    if parts.untouched > 0 {
+        append(out, b"  nothing changes at ")?;
+        append_number(out, parts.untouched)?;
+        append(out, b" of ")?;
+        append_number(out, ingresses)?;
+        append(out, b" ingresses\n")?;
+    }
+    append_outcome_counts(out, &parts.counts)?;
+    append(out, b"\n")
+}
+
+// Adds the groups of an ingress.
+fn add_section(
     alloc: Global,
-    out: &mut Vec<u8>,
+    parts: &mut Parts,
     names: &Names,
     section: &Section,
-    counts: &mut Counts,
 ) -> Result<(), NoMemory> {
     let rows = section.rows.as_slice();
-    let groups = group_rows(alloc, rows)?;
-    let changes = changes_of(alloc, &groups)?;
-    append_heading(out, names, section.place, rows.len(), groups.len())?;
+    let entries = group_rows(alloc, rows)?;
+    let mut kinds = [0; 5];
+    append_heading(
+        &mut parts.groups,
+        names,
+        section.place,
+        rows.len(),
+        entries.len(),
+    )?;
     for change in &ORDER {
-        for (group, found) in groups.iter().zip(changes.iter()) {
-            if *found == *change {
-                append_group(alloc, out, names, group, *change)?;
-                counts.add(alloc, names, group, *change)?;
+        for entry in &entries {
+            if entry.change == *change {
+                append_entry(alloc, &mut parts.groups, names, entry)?;
+                parts.counts.add(alloc, names, entry)?;
+                count_change(&mut kinds, *change);
+                add_loop(alloc, &mut parts.loops, names, section.place, entry)?;
             }
         }
     }
-    append(out, b"\n")
+    append(&mut parts.groups, b"\n")?;
+    add_place(parts, names, section, &kinds)
+}
+
+// The line of an ingress in the summary.
+fn add_place(
+    parts: &mut Parts,
+    names: &Names,
+    section: &Section,
+    kinds: &[u64; 5],
+) -> Result<(), NoMemory> {
+    let rows = section.rows.as_slice().len();
+    if rows == 0 {
+        parts.untouched = parts.untouched.saturating_add(1);
+        return Ok(());
+    }
+    append(&mut parts.places, b"  ingress ")?;
+    append_place(&mut parts.places, names, section.place)?;
+    append(&mut parts.places, b": ")?;
+    for k in 0..5 {
+        if kinds[k] > 0 {
+            append(&mut parts.places, change_name(ORDER[k]))?;
+            append(&mut parts.places, b" ")?;
+            append_number(&mut parts.places, kinds[k])?;
+            append(&mut parts.places, b", ")?;
+        }
+    }
+    append(&mut parts.places, b"rows ")?;
+    append_number(&mut parts.places, rows)?;
+    append(&mut parts.places, b"\n")
+}
+
+// A loop behind its ingress.
+fn add_loop(
+    alloc: Global,
+    loops: &mut Vec<u8>,
+    names: &Names,
+    place: Place,
+    entry: &Entry,
+) -> Result<(), NoMemory> {
+    if entry.change != Change::Loops {
+        return Ok(());
+    }
+    append(loops, b"  ingress ")?;
+    append_place(loops, names, place)?;
+    append_headers(alloc, loops, names, entry)
 }
 
 fn append_heading(
@@ -111,33 +224,34 @@ fn append_heading(
 }
 
 pub(crate) fn append_place(out: &mut Vec<u8>, names: &Names, place: Place) -> Result<(), NoMemory> {
-    append_name(out, names, place.device)?;
+    append(out, name_of(names, place.device))?;
     append(out, b" ")?;
-    append_name(out, names, place.interface)
-}
-
-fn append_name(out: &mut Vec<u8>, names: &Names, number: u32) -> Result<(), NoMemory> {
-    match names.texts.as_slice().get(number as usize) {
-        Some(text) => append(out, text.as_bytes()),
-        None => Ok(()),
-    }
+    append(out, name_of(names, place.interface))
 }
 
 // One line: the change, the headers, and the outcomes.
-fn append_group(
+fn append_entry(
     alloc: Global,
     out: &mut Vec<u8>,
     names: &Names,
-    group: &Group,
-    change: Change,
+    entry: &Entry,
 ) -> Result<(), NoMemory> {
     append(out, b"  ")?;
-    append(out, change_name(change))?;
-    append_fields(alloc, out, group)?;
+    append(out, change_name(entry.change))?;
+    append_headers(alloc, out, names, entry)
+}
+
+fn append_headers(
+    alloc: Global,
+    out: &mut Vec<u8>,
+    names: &Names,
+    entry: &Entry,
+) -> Result<(), NoMemory> {
+    append_fields(alloc, out, &entry.shown)?;
     append(out, b": ")?;
-    append_outcomes(alloc, out, names, &group.old)?;
+    append_outcomes(alloc, out, names, &entry.group.old)?;
     append(out, b" -> ")?;
-    append_outcomes(alloc, out, names, &group.new)?;
+    append_outcomes(alloc, out, names, &entry.group.new)?;
     append(out, b"\n")
 }
 
@@ -156,4 +270,14 @@ pub(crate) fn append_outcomes(
         first = false;
     }
     Ok(())
+}
+
+/// The name at a position; an empty one past the end.
+pub(crate) fn name_of(names: &Names, number: u32) -> &[u8]
+    ensures { result.now ≡ name_text names.now number }
+{
+    match names.texts.as_slice().get(number as usize) {
+        Some(text) => text.as_bytes(),
+        None => b"",
+    }
 }

@@ -1,29 +1,29 @@
 //! The view as one call.
 
-ghost use Rattle.std.specs.Prelude.{◌≡◌, ◌≢◌, ◌⊎◌, ◌≤◌, [], Ok, None, Some, Err, IfSome, IfOk, IfErr, false, map, string_bytes, option_map, length};
-ghost use Rattle.net_io.specs.Limits.{file_limit};
+ghost use Rattle.std.specs.Prelude.{◌≡◌, ◌≢◌, None, Some, true, false, IfSome, IfOk, IfErr, map, string_bytes, option_map, length};
 ghost use Rattle.job_core.specs.Causes.{HasCause, WasRead};
 ghost use Rattle.job_core.specs.Endings.{Ends};
 ghost use Rattle.view_core.specs.Lines.{usage_text};
-ghost use Rattle.view_core.specs.Views.{path_of, IsView, Views, ViewsWith, Shows, Does, IsAccepted};
+ghost use Rattle.view_core.specs.Reports.{own_names};
+ghost use Rattle.view_core.specs.Views.{IsView, Views, ViewsWith, Shows, Says, Does, IsAccepted};
+ghost use Rattle.view_core.specs.Words.{is_asked};
 
+use crate::csv::csv_bytes;
 use crate::faults::fault_line;
+use crate::json::json_bytes;
 use crate::names::names_of;
 use crate::page::page_bytes;
+use crate::reading::read_report_file;
 use crate::text::view_bytes;
-use crate::words::{links_of, path_of};
-use job_core::{Report, Stop, finish, read_bytes, read_links_file, refuse};
+use crate::words::{Format, Manner, USAGE, is_asked, links_of, manner_of, path_of, said};
+use job_core::{Report, Stop, finish, read_links_file, refuse};
 use net_io::{Files, Sink};
 use net_types::{Names, NoMemory, Section, Text};
 use report_text::{ReportFail, read_report};
 use std::alloc::Global;
 use topo_links::LinkTable;
 
-// What is written where the words are outside the usage.
-const USAGE: &[u8] = b"usage:\n  view REPORT\n  view --html REPORT [LINKS]\n";
-
-/// Shows the report that the words name, and answers the status: 0 where the view was written, and else as every program of the
-/// house.
+/// Does what the words ask, and answers the status: 0 where it was written, and else as every program of the house.
 pub fn view_run<F: Files, O: Sink, E: Sink>(
     alloc: Global,
     words: &[String],
@@ -32,8 +32,8 @@ pub fn view_run<F: Files, O: Sink, E: Sink>(
     err: &mut E,
 ) -> u8
     // The words alone decide whether they are within the usage.
-    ensures usage { result ≡ 2 → path_of (map string_bytes words.now) ≡ None }
-    ensures refused { path_of (map string_bytes words.now) ≡ None → result ≡ 2 }
+    ensures usage { result ≡ 2 → is_asked (map string_bytes words.now) ≡ false }
+    ensures refused { is_asked (map string_bytes words.now) ≡ false → result ≡ 2 }
 
     // The run ends as one of the view that the words ask for, and a view has nothing that status 1 tells.
     ensures ends { Ends (Does (map string_bytes words.now)) (IsAccepted (map string_bytes words.now)) usage_text result
@@ -42,11 +42,45 @@ pub fn view_run<F: Files, O: Sink, E: Sink>(
         (record { before = E.taken err.old; now = E.taken err.new; faults_before = E.faults err.old; faults_now = E.faults err.new }) }
     ensures plain { result ≢ 1 }
 {
-    let Some(path) = path_of(words) else {
+    if !is_asked(words) {
         return refuse(USAGE, err);
-    };
-    let done = show(alloc, files, path, links_of(words), words.len() > 1);
+    }
+    let done = perform(alloc, files, words);
     finish(alloc, done, out, err)
+}
+
+// What the words ask.
+fn perform<F: Files>(alloc: Global, files: &mut F, words: &[String]) -> Result<Report, Stop>
+    requires { is_asked (map string_bytes words.now) ≡ true }
+    ensures does { IfSome (F.told files.old) (λ t. Does (map string_bytes words.now) t result) }
+    ensures plain { IfOk result (λ r. r.affected ≡ false) }
+    ensures cause { HasCause (F.faults files.old) (F.faults files.new) result }
+{
+    if let Some(text) = said(words) {
+        return says(alloc, text);
+    }
+    let Some(path) = path_of(words) else {
+        unreachable!("the words are within the usage");
+    };
+    let manner = match manner_of(alloc, words) {
+        Ok(manner) => manner,
+        Err(_) => return Err(Stop::NoMemory),
+    };
+    show(alloc, files, path, links_of(words), &manner)
+}
+
+fn says(alloc: Global, text: &[u8]) -> Result<Report, Stop>
+    ensures says { Says text.now result }
+    ensures plain { IfOk result (λ r. r.affected ≡ false) }
+    ensures read { IfErr result WasRead }
+{
+    match text.to_vec(alloc) {
+        Ok(text) => Ok(Report {
+            text,
+            affected: false,
+        }),
+        Err(_) => Err(Stop::NoMemory),
+    }
 }
 
 // The view of the report at a path, or its page with the links at another.
@@ -55,15 +89,15 @@ fn show<F: Files>(
     files: &mut F,
     path: &str,
     links: Option<&str>,
-    page: bool,
+    manner: &Manner,
 ) -> Result<Report, Stop>
-    ensures shows { IfSome (F.told files.old) (λ t. Shows t page path.now (option_map (λ p. p.now) links.entry) result) }
+    ensures shows { IfSome (F.told files.old) (λ t. Shows t manner.now path.now (option_map (λ p. p.now) links.entry) result) }
     ensures plain { IfOk result (λ r. r.affected ≡ false) }
     ensures cause { HasCause (F.faults files.old) (F.faults files.new) result }
 {
     match links {
-        None => show_alone(alloc, files, path, page),
-        Some(links) => show_with(alloc, files, path, links, page),
+        None => show_alone(alloc, files, path, manner),
+        Some(links) => show_with(alloc, files, path, links, manner),
     }
 }
 
@@ -71,14 +105,14 @@ fn show_alone<F: Files>(
     alloc: Global,
     files: &mut F,
     path: &str,
-    page: bool,
+    manner: &Manner,
 ) -> Result<Report, Stop>
-    ensures shows { IfSome (F.told files.old) (λ t. Shows t page path.now None result) }
+    ensures shows { IfSome (F.told files.old) (λ t. Shows t manner.now path.now None result) }
     ensures plain { IfOk result (λ r. r.affected ≡ false) }
     ensures cause { HasCause (F.faults files.old) (F.faults files.new) result }
 {
-    match read_bytes(alloc, files, path) {
-        Ok(bytes) => view_of(alloc, path, &bytes, &None, page),
+    match read_report_file(alloc, files, path) {
+        Ok(bytes) => view_of(alloc, path, &bytes, &None, manner),
         Err(stop) => Err(stop),
     }
 }
@@ -88,14 +122,14 @@ fn show_with<F: Files>(
     files: &mut F,
     path: &str,
     links: &str,
-    page: bool,
+    manner: &Manner,
 ) -> Result<Report, Stop>
-    ensures shows { IfSome (F.told files.old) (λ t. Shows t page path.now (Some links.now) result) }
+    ensures shows { IfSome (F.told files.old) (λ t. Shows t manner.now path.now (Some links.now) result) }
     ensures plain { IfOk result (λ r. r.affected ≡ false) }
     ensures cause { HasCause (F.faults files.old) (F.faults files.new) result }
 {
-    match read_bytes(alloc, files, path) {
-        Ok(bytes) => show_over(alloc, files, path, &bytes, links, page),
+    match read_report_file(alloc, files, path) {
+        Ok(bytes) => show_over(alloc, files, path, &bytes, links, manner),
         Err(stop) => Err(stop),
     }
 }
@@ -107,36 +141,34 @@ fn show_over<F: Files>(
     path: &str,
     bytes: &[u8],
     links: &str,
-    page: bool,
+    manner: &Manner,
 ) -> Result<Report, Stop>
-    requires { length bytes.now ≤ file_limit }
-    ensures shows { IfSome (F.told files.old) (λ t. ViewsWith t page path.now links.now bytes.now result) }
+    ensures shows { IfSome (F.told files.old) (λ t. ViewsWith t manner.now path.now links.now bytes.now result) }
     ensures plain { IfOk result (λ r. r.affected ≡ false) }
     ensures cause { HasCause (F.faults files.old) (F.faults files.new) result }
 {
     match read_links_file(alloc, files, links) {
-        Ok(table) => view_of(alloc, path, bytes, &Some(table), page),
+        Ok(table) => view_of(alloc, path, bytes, &Some(table), manner),
         Err(stop) => Err(stop),
     }
 }
 
-// The view of a report's bytes, as text or as a page.
+// The view of a report's bytes.
 fn view_of(
     alloc: Global,
     path: &str,
     bytes: &[u8],
     links: &Option<LinkTable>,
-    page: bool,
+    manner: &Manner,
 ) -> Result<Report, Stop>
-    requires { length bytes.now ≤ file_limit }
-    ensures views { Views page path.now bytes.now result }
+    ensures views { Views manner.now path.now bytes.now result }
     ensures plain { IfOk result (λ r. r.affected ≡ false) }
     ensures read { IfErr result WasRead }
 {
     let names = names_of(alloc, bytes)?;
     match read_report(alloc, &names, bytes) {
         Ok(sections) => {
-            let report = shown(alloc, &names, &sections, links, page)?;
+            let report = shown(alloc, &names, &sections, links, manner)?;
             Ok(report)
         }
         Err(ReportFail::NotReport) => {
@@ -154,18 +186,31 @@ fn shown(
     names: &Names,
     sections: &[Section],
     links: &Option<LinkTable>,
-    page: bool,
+    manner: &Manner,
 ) -> Result<Report, NoMemory>
-    ensures view { IfOk result (λ r. IsView page sections.now r.text.items) }
+    ensures view { IfOk result (λ r. IsView manner.now names.now sections.now r.text.items) }
     ensures plain { IfOk result (λ r. r.affected ≡ false) }
 {
-    let text = if page {
-        page_bytes(alloc, names, sections, links)?
-    } else {
-        view_bytes(alloc, names, sections)?
-    };
+    let text = text_of(alloc, names, sections, links, manner)?;
     Ok(Report {
         text,
         affected: false,
     })
+}
+
+fn text_of(
+    alloc: Global,
+    names: &Names,
+    sections: &[Section],
+    links: &Option<LinkTable>,
+    manner: &Manner,
+) -> Result<Vec<u8>, NoMemory>
+    ensures { IfOk result (λ text. IsView manner.now names.now sections.now text.items) }
+{
+    match manner.format {
+        Format::Text => view_bytes(alloc, names, sections, &manner.title),
+        Format::Page => page_bytes(alloc, names, sections, links, &manner.title),
+        Format::Json => json_bytes(alloc, names, sections),
+        Format::Csv => csv_bytes(alloc, names, sections),
+    }
 }

@@ -1,5 +1,5 @@
-use Rattle.view_core.proofs.Reports.{three_more}
+use Rattle.view_core.proofs.Joined.{two_more}
 use Rattle.view_core.proofs.text.append_head.Goals as goal
 
 pub returns : goal.returns
-returns c = three_more _ _ _ _ _ _ _ c.in_ok-append.ensures c.in_ok-append_number.ensures c.in_ok-append-2.ensures
+returns c = two_more _ _ _ _ _ c.in_ok-append_title.ensures c.in_ok-append_ingresses.ensures

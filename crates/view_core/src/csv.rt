@@ -1,0 +1,126 @@
+//! The groups of a report as a table: one group in each line, each part in quotes.
+ghost use Rattle.std.specs.Prelude.{◌≡◌, ◌++◌, IfOk};
+ghost use Rattle.view_core.specs.Views.{csv_head, HasFront};
+
+use crate::append::{append, append_number};
+use crate::fields::{Kind, append_values, is_open, service_of, source_kind, width_of};
+use crate::flags::append_flags;
+use crate::summary::row_count;
+use crate::text::{append_outcomes, change_name, name_of};
+use net_types::{List, Names, NoMemory, Outcome, Section};
+use report_groups::{Entry, Shown, Values, group_rows};
+use std::alloc::Global;
+
+// The first line.
+const HEAD: &[u8] = b"device,interface,change,dst,src,proto,dport,sport,flags,old,new,rows\n";
+
+/// The table of a report: for each group its ingress, what the change does, the values of its fields, its outcomes, and how many
+/// rows it stands for.
+pub(crate) fn csv_bytes(
+    alloc: Global,
+    names: &Names,
+    sections: &[Section],
+) -> Result<Vec<u8>, NoMemory>
+    ensures { IfOk result (λ text. HasFront csv_head text.items) }
+{
+    let lines = lines_of(alloc, names, sections)?;
+    let mut text = Vec::new(alloc);
+    append(&mut text, HEAD)?;
+    append(&mut text, &lines)?;
+    Ok(text)
+}
+
+fn lines_of(alloc: Global, names: &Names, sections: &[Section]) -> Result<Vec<u8>, NoMemory> {
+    let mut lines = Vec::new(alloc);
+    for section in sections {
+        let entries = group_rows(alloc, section.rows.as_slice())?;
+        for entry in &entries {
+            append_line(alloc, &mut lines, names, section, entry)?;
+        }
+    }
+    Ok(lines)
+}
+
+fn append_line(
+    alloc: Global,
+    out: &mut Vec<u8>,
+    names: &Names,
+    section: &Section,
+    entry: &Entry,
+) -> Result<(), NoMemory> {
+    append_quoted(out, name_of(names, section.place.device))?;
+    append_next(out, name_of(names, section.place.interface))?;
+    append_next(out, change_name(entry.change))?;
+    append_fields(alloc, out, &entry.shown)?;
+    append_label(alloc, out, names, &entry.group.old)?;
+    append_label(alloc, out, names, &entry.group.new)?;
+    append(out, b",")?;
+    append_number(out, row_count(&entry.group))?;
+    append(out, b"\n")
+}
+
+// The values of each field; `any` of one that is open.
+fn append_fields(alloc: Global, out: &mut Vec<u8>, shown: &Shown) -> Result<(), NoMemory> {
+    let ports = Kind::Port(service_of(&shown.proto));
+    append_field(alloc, out, &shown.dst, Kind::Address)?;
+    append_field(alloc, out, &shown.src, Kind::Address)?;
+    append_field(alloc, out, &shown.proto, Kind::Protocol)?;
+    append_field(alloc, out, &shown.dport, ports)?;
+    append_field(alloc, out, &shown.sport, source_kind(&shown.proto))?;
+    let mut text = Vec::new(alloc);
+    append_flags(&mut text, &shown.flags)?;
+    append_next(out, flags_in(&text))
+}
+
+fn append_field(
+    alloc: Global,
+    out: &mut Vec<u8>,
+    values: &Values,
+    kind: Kind,
+) -> Result<(), NoMemory> {
+    if is_open(width_of(kind), values) {
+        return append_next(out, b"any");
+    }
+    let mut text = Vec::new(alloc);
+    append_values(alloc, &mut text, values, kind)?;
+    append_next(out, &text)
+}
+
+// Flags without the blanks before them.
+fn flags_in(text: &[u8]) -> &[u8] {
+    match text {
+        [] => b"any",
+        [b' ', b' ', rest @ ..] => rest,
+        _ => text,
+    }
+}
+
+fn append_label(
+    alloc: Global,
+    out: &mut Vec<u8>,
+    names: &Names,
+    outcomes: &List<Outcome>,
+) -> Result<(), NoMemory> {
+    let mut text = Vec::new(alloc);
+    append_outcomes(alloc, &mut text, names, outcomes)?;
+    append_next(out, &text)
+}
+
+// A part behind a comma.
+fn append_next(out: &mut Vec<u8>, text: &[u8]) -> Result<(), NoMemory> {
+    append(out, b",")?;
+    append_quoted(out, text)
+}
+
+// A part in quotes: a quote in it stands twice.
+fn append_quoted(out: &mut Vec<u8>, text: &[u8]) -> Result<(), NoMemory> {
+    append(out, b"\"")?;
+    for b in text {
+        if *b == b'"' {
+            append(out, b"\"\"")?;
+        } else {
+            append(out, &[*b])?;
+        }
+    }
+    append(out, b"\"")
+}

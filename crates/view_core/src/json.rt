@@ -1,0 +1,374 @@
+//! A report as one document of JSON. Text of the report stands in it as `append_string` writes it, and nowhere else.
+ghost use Rattle.std.specs.Prelude.{◌≡◌, ◌++◌, ◌≤◌, codes, IfOk, OnOk};
+ghost use Rattle.std.specs.List.{flat_map, join_by};
+ghost use Rattle.report_text.specs.FieldText.{number_field_text};
+ghost use Rattle.report_text.specs.ReportText.{row_count};
+ghost use Rattle.view_core.specs.Json.{string_byte, string_text, key, string_member, place_members, address_change, port_change, outcome_members, outcome_text, outcomes_text, cube_members, fields_members, row_text, section_text, json_text};
+
+use crate::append::{append, append_number};
+use crate::escape::hex_digit;
+use crate::field_text::{address_field_bytes, number_field_bytes};
+use crate::text::name_of;
+use hdr_bits::{Cube, Header};
+use net_types::{Label, Names, NoMemory, Outcome, Place, Row, Section};
+use report_text::address_bytes;
+use std::alloc::Global;
+
+/// The document of a report: exactly its sections and their rows, with the names of devices and interfaces.
+#[tactic(auto, unfolding(crate::specs::Json::json_text))]
+pub(crate) fn json_bytes(
+    alloc: Global,
+    names: &Names,
+    sections: &[Section],
+) -> Result<Vec<u8>, NoMemory>
+    ensures { IfOk result (λ text. text.items ≡ json_text names.now sections.now) }
+{
+    let mut out = Vec::new(alloc);
+    append(
+        &mut out,
+        b"{\"schema\": \"diqenyu-report\", \"version\": 1, \"affected\": ",
+    )?;
+    append_number(&mut out, row_count(sections))?;
+    append(&mut out, b",\n\"ingresses\": [")?;
+    append_sections(alloc, &mut out, names, sections)?;
+    append(&mut out, b"]}\n")?;
+    Ok(out)
+}
+
+fn row_count(sections: &[Section]) -> u128
+    ensures { result ≡ row_count sections.now }
+{
+    let mut rows: u128 = 0;
+    for section in sections {
+        rows += section.rows.as_slice().len() as u128;
+    }
+    rows
+}
+
+fn append_sections(
+    alloc: Global,
+    out: &mut Vec<u8>,
+    names: &Names,
+    sections: &[Section],
+) -> Result<(), NoMemory>
+    ensures { OnOk result (out.new.items ≡ out.old.items ++ join_by (section_text names.now) (codes ",\n") sections.now) }
+{
+    let [first, rest @ ..] = sections else {
+        return Ok(());
+    };
+    append_section(alloc, out, names, first)?;
+    for section in rest {
+        append(out, b",\n")?;
+        append_section(alloc, out, names, section)?;
+    }
+    Ok(())
+}
+
+#[tactic(auto, unfolding(crate::specs::Json::section_text))]
+fn append_section(
+    alloc: Global,
+    out: &mut Vec<u8>,
+    names: &Names,
+    section: &Section,
+) -> Result<(), NoMemory>
+    ensures { OnOk result (out.new.items ≡ out.old.items ++ section_text names.now section.now) }
+{
+    append(out, b"{")?;
+    append_place(out, names, section.place)?;
+    append(out, b", \"rows\": [")?;
+    append_rows(alloc, out, names, section.rows.as_slice())?;
+    append(out, b"]}")
+}
+
+fn append_rows(
+    alloc: Global,
+    out: &mut Vec<u8>,
+    names: &Names,
+    rows: &[Row],
+) -> Result<(), NoMemory>
+    ensures { OnOk result (out.new.items ≡ out.old.items ++ join_by (row_text names.now) (codes ",\n") rows.now) }
+{
+    let [first, rest @ ..] = rows else {
+        return Ok(());
+    };
+    append_row(alloc, out, names, first)?;
+    for row in rest {
+        append(out, b",\n")?;
+        append_row(alloc, out, names, row)?;
+    }
+    Ok(())
+}
+
+#[tactic(auto, unfolding(crate::specs::Json::row_text))]
+fn append_row(alloc: Global, out: &mut Vec<u8>, names: &Names, row: &Row) -> Result<(), NoMemory>
+    ensures { OnOk result (out.new.items ≡ out.old.items ++ row_text names.now row.now) }
+{
+    append(out, b"{")?;
+    append_cube(alloc, out, &row.cube)?;
+    append(out, b", \"old\": ")?;
+    append_outcomes(alloc, out, names, &row.old)?;
+    append(out, b", \"new\": ")?;
+    append_outcomes(alloc, out, names, &row.new)?;
+    append(out, b"}")
+}
+
+fn append_cube(alloc: Global, out: &mut Vec<u8>, cube: &Cube) -> Result<(), NoMemory>
+    ensures { OnOk result (out.new.items ≡ out.old.items ++ cube_members cube.now) }
+{
+    let (Some(fixed), Some(bits)) = (Header::from_bits(cube.fixed), Header::from_bits(cube.bits))
+    else {
+        unreachable!("a cube has 112 bits");
+    };
+    append_members(alloc, out, &fixed, &bits)
+}
+
+#[tactic(auto, unfolding(crate::specs::Json::fields_members))]
+fn append_members(
+    alloc: Global,
+    out: &mut Vec<u8>,
+    fixed: &Header,
+    bits: &Header,
+) -> Result<(), NoMemory>
+    ensures { OnOk result (out.new.items ≡ out.old.items ++ fields_members fixed.now bits.now) }
+{
+    append_member(
+        out,
+        b"dst",
+        &address_field_bytes(alloc, fixed.dst, bits.dst)?,
+    )?;
+    append(out, b", ")?;
+    append_member(
+        out,
+        b"src",
+        &address_field_bytes(alloc, fixed.src, bits.src)?,
+    )?;
+    append(out, b", ")?;
+    append_number_member(
+        alloc,
+        out,
+        b"proto",
+        8,
+        fixed.proto.into(),
+        bits.proto.into(),
+    )?;
+    append(out, b", ")?;
+    append_number_member(
+        alloc,
+        out,
+        b"dport",
+        16,
+        fixed.dport.into(),
+        bits.dport.into(),
+    )?;
+    append(out, b", ")?;
+    append_number_member(
+        alloc,
+        out,
+        b"sport",
+        16,
+        fixed.sport.into(),
+        bits.sport.into(),
+    )?;
+    append(out, b", ")?;
+    append_number_member(
+        alloc,
+        out,
+        b"flags",
+        8,
+        fixed.flags.into(),
+        bits.flags.into(),
+    )
+}
+
+fn append_number_member(
+    alloc: Global,
+    out: &mut Vec<u8>,
+    name: &[u8],
+    width: u32,
+    fixed: u32,
+    bits: u32,
+) -> Result<(), NoMemory>
+    requires { width ≤ 16 }
+    ensures { OnOk result (out.new.items ≡ out.old.items ++ string_member name.now (number_field_text width fixed bits)) }
+{
+    let text = number_field_bytes(alloc, width, fixed, bits)?;
+    append_member(out, name, &text)
+}
+
+fn append_outcomes(
+    alloc: Global,
+    out: &mut Vec<u8>,
+    names: &Names,
+    outcomes: &Label,
+) -> Result<(), NoMemory>
+    ensures { OnOk result (out.new.items ≡ out.old.items ++ outcomes_text names.now outcomes.now) }
+{
+    append(out, b"[")?;
+    append_listed(alloc, out, names, outcomes.as_slice())?;
+    append(out, b"]")
+}
+
+fn append_listed(
+    alloc: Global,
+    out: &mut Vec<u8>,
+    names: &Names,
+    outcomes: &[Outcome],
+) -> Result<(), NoMemory>
+    ensures { OnOk result (out.new.items ≡ out.old.items ++ join_by (outcome_text names.now) (codes ", ") outcomes.now) }
+{
+    let [first, rest @ ..] = outcomes else {
+        return Ok(());
+    };
+    append_outcome(alloc, out, names, first)?;
+    for outcome in rest {
+        append(out, b", ")?;
+        append_outcome(alloc, out, names, outcome)?;
+    }
+    Ok(())
+}
+
+fn append_outcome(
+    alloc: Global,
+    out: &mut Vec<u8>,
+    names: &Names,
+    outcome: &Outcome,
+) -> Result<(), NoMemory>
+    ensures { OnOk result (out.new.items ≡ out.old.items ++ outcome_text names.now outcome.now) }
+{
+    append(out, b"{")?;
+    append_outcome_members(alloc, out, names, outcome)?;
+    append(out, b"}")
+}
+
+#[tactic(auto, unfolding(crate::specs::Json::outcome_members))]
+fn append_outcome_members(
+    alloc: Global,
+    out: &mut Vec<u8>,
+    names: &Names,
+    outcome: &Outcome,
+) -> Result<(), NoMemory>
+    ensures { OnOk result (out.new.items ≡ out.old.items ++ outcome_members names.now outcome.now) }
+{
+    match *outcome {
+        Outcome::Dropped => append_member(out, b"end", b"drop"),
+        Outcome::Expired => append_member(out, b"end", b"expired"),
+        Outcome::Local { place } => {
+            append_member(out, b"end", b"local")?;
+            append(out, b", ")?;
+            append_place(out, names, place)
+        }
+        Outcome::Exit {
+            place,
+            src,
+            dst,
+            sport,
+            dport,
+        } => {
+            append_member(out, b"end", b"exit")?;
+            append(out, b", ")?;
+            append_place(out, names, place)?;
+            append_address(alloc, out, b"src", src)?;
+            append_address(alloc, out, b"dst", dst)?;
+            append_port(out, b"sport", sport)?;
+            append_port(out, b"dport", dport)
+        }
+    }
+}
+
+fn append_address(
+    alloc: Global,
+    out: &mut Vec<u8>,
+    name: &[u8],
+    address: Option<u32>,
+) -> Result<(), NoMemory>
+    ensures { OnOk result (out.new.items ≡ out.old.items ++ address_change name.now address) }
+{
+    match address {
+        Some(address) => {
+            let text = address_bytes(alloc, address)?;
+            append(out, b", ")?;
+            append_member(out, name, &text)
+        }
+        None => Ok(()),
+    }
+}
+
+fn append_port(out: &mut Vec<u8>, name: &[u8], port: Option<u16>) -> Result<(), NoMemory>
+    ensures { OnOk result (out.new.items ≡ out.old.items ++ port_change name.now port) }
+{
+    match port {
+        Some(port) => {
+            append(out, b", ")?;
+            append_key(out, name)?;
+            append_number(out, port)
+        }
+        None => Ok(()),
+    }
+}
+
+#[tactic(auto, unfolding(crate::specs::Json::place_members))]
+fn append_place(out: &mut Vec<u8>, names: &Names, place: Place) -> Result<(), NoMemory>
+    ensures { OnOk result (out.new.items ≡ out.old.items ++ place_members names.now place) }
+{
+    append_member(out, b"device", name_of(names, place.device))?;
+    append(out, b", ")?;
+    append_member(out, b"interface", name_of(names, place.interface))
+}
+
+// A member that is a string.
+fn append_member(out: &mut Vec<u8>, name: &[u8], text: &[u8]) -> Result<(), NoMemory>
+    ensures { OnOk result (out.new.items ≡ out.old.items ++ string_member name.now text.now) }
+{
+    append_key(out, name)?;
+    append_string(out, text)
+}
+
+// The name of a member.
+fn append_key(out: &mut Vec<u8>, name: &[u8]) -> Result<(), NoMemory>
+    ensures { OnOk result (out.new.items ≡ out.old.items ++ key name.now) }
+{
+    append(out, b"\"")?;
+    append(out, name)?;
+    append(out, b"\": ")
+}
+
+#[tactic(auto, unfolding(crate::specs::Json::string_text))]
+fn append_string(out: &mut Vec<u8>, text: &[u8]) -> Result<(), NoMemory>
+    ensures { OnOk result (out.new.items ≡ out.old.items ++ string_text text.now) }
+{
+    append(out, b"\"")?;
+    append_string_bytes(out, text)?;
+    append(out, b"\"")
+}
+
+fn append_string_bytes(out: &mut Vec<u8>, text: &[u8]) -> Result<(), NoMemory>
+    ensures { OnOk result (out.new.items ≡ out.old.items ++ flat_map string_byte text.now) }
+{
+    for b in text {
+        append_string_byte(out, *b)?;
+    }
+    Ok(())
+}
+
+#[tactic(auto, unfolding(crate::specs::Json::string_byte))]
+fn append_string_byte(out: &mut Vec<u8>, b: u8) -> Result<(), NoMemory>
+    ensures { OnOk result (out.new.items ≡ out.old.items ++ string_byte b) }
+{
+    if b == b'"' || b == b'\\' {
+        append(out, &[b'\\', b])
+    } else if b < 32 || b > 126 {
+        append(
+            out,
+            &[
+                b'\\',
+                b'u',
+                b'0',
+                b'0',
+                hex_digit(b / 16),
+                hex_digit(b % 16),
+            ],
+        )
+    } else {
+        append(out, &[b])
+    }
+}

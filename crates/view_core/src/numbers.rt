@@ -1,0 +1,204 @@
+//! Protocols, ports and ICMP messages as a person reads them.
+ghost use Rattle.std.specs.Prelude.{◌≡◌, ◌++◌, ◌∷◌, [], ◌/◌, ◌%◌, ◌≤◌, ◌<◌, option_map, OnOk};
+ghost use Rattle.std.specs.Int.{bit_at};
+ghost use Rattle.report_text.specs.FieldText.{digit_text, ternary_text};
+ghost use Rattle.view_core.specs.FieldWords.{range_text, name_or, protocol_text, protocol_part, name_behind, ports_text, port_part, one_type, one_message, some_types, some_messages, messages_text, masked_messages, message_part};
+
+use crate::append::{append, append_number};
+use crate::labels::{Service, code_name, port_name, protocol_name, type_name};
+use net_types::NoMemory;
+use report_groups::{Part, Pattern, Span};
+
+/// A protocol by its name, or numbers.
+pub(crate) fn append_protocol_part(out: &mut Vec<u8>, part: &Part) -> Result<(), NoMemory>
+    ensures { OnOk result (out.new.items ≡ out.old.items ++ protocol_part part.now) }
+{
+    match part {
+        Part::Run(span) => append_protocol(out, span),
+        Part::Masked(pattern) => {
+            append(out, b"proto ")?;
+            append_ternary(out, 8, pattern.fixed, pattern.bits)
+        }
+    }
+}
+
+/// A port, behind which its name stands, or ports.
+pub(crate) fn append_port_part(
+    out: &mut Vec<u8>,
+    service: Service,
+    part: &Part,
+) -> Result<(), NoMemory>
+    ensures { OnOk result (out.new.items ≡ out.old.items ++ port_part service part.now) }
+{
+    match part {
+        Part::Run(span) => append_ports(out, service, span),
+        Part::Masked(pattern) => append_ternary(out, 16, pattern.fixed, pattern.bits),
+    }
+}
+
+/// ICMP messages: by name, by types and codes, or by numbers, each a type times 256 plus a code.
+pub(crate) fn append_message_part(out: &mut Vec<u8>, part: &Part) -> Result<(), NoMemory>
+    ensures { OnOk result (out.new.items ≡ out.old.items ++ message_part part.now) }
+{
+    match part {
+        Part::Run(span) => append_messages(out, span),
+        Part::Masked(pattern) => append_masked(out, pattern),
+    }
+}
+
+fn append_masked(out: &mut Vec<u8>, pattern: &Pattern) -> Result<(), NoMemory>
+    ensures { OnOk result (out.new.items ≡ out.old.items ++ masked_messages pattern.now) }
+{
+    append(out, b"icmp message ")?;
+    append_ternary(out, 16, pattern.fixed, pattern.bits)?;
+    Ok(())
+}
+
+// The number, or the first and the last one.
+#[tactic(auto, unfolding(crate::specs::FieldWords::range_text))]
+fn append_range(out: &mut Vec<u8>, span: &Span) -> Result<(), NoMemory>
+    ensures { OnOk result (out.new.items ≡ out.old.items ++ range_text span.now) }
+{
+    append_number(out, span.low)?;
+    if span.low == span.high {
+        return Ok(());
+    }
+    append(out, b" - ")?;
+    append_number(out, span.high)
+}
+
+#[tactic(auto, unfolding(crate::specs::FieldWords::protocol_text))]
+fn append_protocol(out: &mut Vec<u8>, span: &Span) -> Result<(), NoMemory>
+    ensures { OnOk result (out.new.items ≡ out.old.items ++ protocol_text span.now) }
+{
+    let name = if span.low == span.high {
+        protocol_name(span.low)
+    } else {
+        None
+    };
+    match name {
+        Some(name) => append(out, name),
+        None => {
+            append(out, b"proto ")?;
+            append_range(out, span)
+        }
+    }
+}
+
+#[tactic(auto, unfolding(crate::specs::FieldWords::ports_text))]
+fn append_ports(out: &mut Vec<u8>, service: Service, span: &Span) -> Result<(), NoMemory>
+    ensures { OnOk result (out.new.items ≡ out.old.items ++ ports_text service span.now) }
+{
+    let name = if span.low == span.high {
+        port_name(span.low, service)
+    } else {
+        None
+    };
+    append_range(out, span)?;
+    append_behind(out, name)
+}
+
+fn append_behind(out: &mut Vec<u8>, name: Option<&[u8]>) -> Result<(), NoMemory>
+    ensures { OnOk result (out.new.items ≡ out.old.items ++ name_behind (option_map (λ n. n.now) name.entry)) }
+{
+    match name {
+        Some(name) => {
+            append(out, b" (")?;
+            append(out, name)?;
+            append(out, b")")
+        }
+        None => Ok(()),
+    }
+}
+
+#[tactic(auto, unfolding(crate::specs::FieldWords::messages_text))]
+fn append_messages(out: &mut Vec<u8>, span: &Span) -> Result<(), NoMemory>
+    ensures { OnOk result (out.new.items ≡ out.old.items ++ messages_text span.now) }
+{
+    if span.low == span.high {
+        append_message(out, span.low)
+    } else if span.low % 256 == 0 && span.high % 256 == 255 {
+        if span.low / 256 == span.high / 256 {
+            append_type(out, span.low / 256)
+        } else {
+            append_types(out, span)
+        }
+    } else {
+        append_numbers(out, span)
+    }
+}
+
+fn append_numbers(out: &mut Vec<u8>, span: &Span) -> Result<(), NoMemory>
+    ensures { OnOk result (out.new.items ≡ out.old.items ++ some_messages span.now) }
+{
+    append(out, b"icmp message ")?;
+    append_number(out, span.low)?;
+    append(out, b" - ")?;
+    append_number(out, span.high)?;
+    Ok(())
+}
+
+fn append_type(out: &mut Vec<u8>, kind: u32) -> Result<(), NoMemory>
+    ensures { OnOk result (out.new.items ≡ out.old.items ++ one_type kind) }
+{
+    match type_name(kind) {
+        Some(name) => append(out, name),
+        None => {
+            append(out, b"icmp type ")?;
+            append_number(out, kind)
+        }
+    }
+}
+
+fn append_message(out: &mut Vec<u8>, message: u32) -> Result<(), NoMemory>
+    ensures { OnOk result (out.new.items ≡ out.old.items ++ one_message message) }
+{
+    match code_name(message) {
+        Some(name) => append(out, name),
+        None => {
+            append(out, b"icmp type ")?;
+            append_number(out, message / 256)?;
+            append(out, b" code ")?;
+            append_number(out, message % 256)
+        }
+    }
+}
+
+fn append_types(out: &mut Vec<u8>, span: &Span) -> Result<(), NoMemory>
+    ensures { OnOk result (out.new.items ≡ out.old.items ++ some_types span.now) }
+{
+    append(out, b"icmp types ")?;
+    append_number(out, span.low / 256)?;
+    append(out, b" - ")?;
+    append_number(out, span.high / 256)
+}
+
+/// The digits of a pattern of `width` bits, the most significant one first.
+pub(crate) fn append_ternary(
+    out: &mut Vec<u8>,
+    width: u32,
+    fixed: u32,
+    bits: u32,
+) -> Result<(), NoMemory>
+    requires { width ≤ 32 }
+    ensures { OnOk result (out.new.items ≡ out.old.items ++ ternary_text width fixed bits) }
+{
+    for k in (0..width).rev() {
+        out.push(ternary_digit(fixed, bits, k))?;
+    }
+    Ok(())
+}
+
+// Place `k` from the least significant one, as a ternary digit.
+fn ternary_digit(fixed: u32, bits: u32, k: u32) -> u8
+    requires { k < 32 }
+    ensures { digit_text (bit_at fixed k) (bit_at bits k) ≡ result ∷ [] }
+{
+    if fixed >> k & 1 == 0 {
+        b'*'
+    } else if bits >> k & 1 == 0 {
+        b'0'
+    } else {
+        b'1'
+    }
+}
