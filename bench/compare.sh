@@ -1,14 +1,11 @@
 #!/usr/bin/env bash
-# Times the built program on networks that networks.py makes: rows, seconds and megabytes; and, by crates/bench_compare, the
-# places, their ways, the nodes of the table after each stage, where the time goes, and how much faster 2 and 4 workers are than
-# one, from start to end and from the start of the walk. Words choose one network, as `list 100 20`, or `generated 7 200`: the
-# networks of `gen 7 200`, from files, and that command itself.
+# Times the built program on networks that networks.py makes, by 1, 2 and 4 workers: rows, seconds of the clock and of the processors,
+# megabytes, and how many times as fast as one worker. REVIEW names another program that is timed beside it. Words choose one network, as
+# `list 100 20`, or `generated 7 200`: the networks of `gen 7 200`, from files, and that command itself.
 cd "$(dirname "$0")/.." || exit 1
 folder=$(mktemp -d) || exit 1
 trap 'rm -rf "$folder"' EXIT
 ./review >/dev/null 2>&1
-# Without words it says what it wants, and stands built.
-(cd crates/bench_compare && rt run </dev/null >/dev/null 2>&1)
 
 measure() {
     name=$*
@@ -19,32 +16,33 @@ measure() {
         python3 bench/networks.py "$1" "$folder" "${@:2}" || exit 1
     fi
     python3 - "$name" "$folder" <<'PYTHON'
-import re, resource, subprocess, sys, time
+import os, subprocess, sys, time
 name, folder = sys.argv[1:]
-words = [folder + "/old", folder + "/new", folder + "/links"]
+words = ["compare", folder + "/old", folder + "/new", folder + "/links"]
+programs = ["crates/review_cli/out/review_cli"] + [p for p in [os.environ.get("REVIEW")] if p]
 
 
-def timed(name, *words):
+def timed(program, *words):
+    """Runs the program: its status, its last line, and seconds of the clock, of the processors, and megabytes of this run."""
     start = time.monotonic()
-    run = subprocess.run(["crates/review_cli/out/review_cli", *words], stdout=subprocess.PIPE)
-    seconds = time.monotonic() - start
-    memory = resource.getrusage(resource.RUSAGE_CHILDREN).ru_maxrss // 1024
-    last = run.stdout.decode().splitlines()[-1:] or ["nothing"]
-    print("%-20s status %d, %s rows, %.3f s, %d MB" % (name, run.returncode, last[0].removeprefix("affected "), seconds, memory))
+    run = subprocess.Popen([program, *words], stdout=subprocess.PIPE)
+    last = b"nothing"
+    for last in run.stdout:
+        pass
+    _, status, used = os.wait4(run.pid, 0)
+    return os.waitstatus_to_exitcode(status), last.decode().strip(), time.monotonic() - start, used.ru_utime + used.ru_stime, used.ru_maxrss // 1024
 
 
-timed(name, "compare", *words)
+for program in programs:
+    print("%-24s %s" % (name, "" if program is programs[0] else program))
+    one = None
+    for workers in 1, 2, 4:
+        status, last, clock, processors, memory = timed(program, *words, "--workers", str(workers))
+        one = one or clock
+        print("    %d workers: status %d, %s, clock %.3f s, processors %.3f s, %d MB, %.2f times as fast as one" % (workers, status, last, clock, processors, memory, one / clock))
 if name.startswith("generated "):
-    timed("gen " + name.removeprefix("generated "), "gen", *name.split()[1:])
-run = subprocess.run(["crates/bench_compare/out/bench_compare", *words, "time"], stdout=subprocess.PIPE)
-shown = run.stdout.decode()
-for line in shown.splitlines():
-    print("    " + line)
-shared = sum(int(us) for us in re.findall(r"(?:compile|ways|reach) (\d+) us", shown))
-by = {int(n): int(us) for us, n in re.findall(r"compare (\d+) us by (\d+) workers", shown)}
-for n in sorted(by)[1:]:
-    walks = (by[1] - shared) / max(1, by[n] - shared)
-    print("    %d workers: %.2f times as fast as one, %.2f times from the start of the walk" % (n, by[1] / by[n], walks))
+    status, last, clock, processors, memory = timed(programs[0], "gen", *name.split()[1:])
+    print("    gen: status %d, %s, clock %.3f s, processors %.3f s, %d MB" % (status, last, clock, processors, memory))
 PYTHON
 }
 
