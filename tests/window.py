@@ -1,0 +1,189 @@
+#!/usr/bin/env python3
+"""Runs `window` as its users do. DIQENYU_REVIEW, DIQENYU_VIEW and DIQENYU_DOCTOR name other programs than those of the launchers.
+
+The doctor's warnings are those of a stand-in where a case is about what `window` does with them.
+"""
+import os
+import shutil
+import signal
+import subprocess
+import sys
+import tempfile
+import time
+import unittest
+
+TOP = os.path.dirname(os.path.dirname(os.path.abspath(__file__)))
+sys.dont_write_bytecode = True
+
+CAMPUS = ["examples/campus/old", "examples/campus/new", "examples/campus/links"]
+EDGE_DOWN = ["examples/campus-edge-down/old", "examples/campus-edge-down/new", "examples/campus-edge-down/links"]
+USAGE = b"usage:\n  window OLD NEW LINKS [OPTION ...]\n"
+
+CAMPUS_TOLD = """Server subnet
+warnings: none
+packets: something changes at 2 of 4 ingresses, 30 rows
+  ACC1 Vlan11: 2 groups get through that didn't
+  BRANCH Vlan40: 2 groups get through that didn't
+questions: 26, of which 0 fail before and 0 afterwards
+"""
+EDGE_DOWN_TOLD = """questions: 8, of which 0 fail before and 1 afterwards
+  only afterwards: 8 noloop BRANCH Vlan40 dst 10.128.0.0/9
+"""
+SAME_TOLD = """examples/campus/old -> examples/campus/old
+warnings: none
+packets: nothing changes at any of 4 ingresses
+questions: none asked
+"""
+
+
+def read(path):
+    with open(path, encoding="utf-8") as stream:
+        return stream.read()
+
+
+def write(path, text, mode=0o644):
+    os.makedirs(os.path.dirname(path), exist_ok=True)
+    with open(path, "w", encoding="utf-8") as stream:
+        stream.write(text)
+    os.chmod(path, mode)
+    return path
+
+
+class Windows(unittest.TestCase):
+    """A scratch folder, and calls of `window` with a doctor that says what a case wants."""
+
+    def setUp(self):
+        self.scratch = tempfile.mkdtemp(prefix="diqenyu-test-")
+        self.addCleanup(shutil.rmtree, self.scratch)
+        self.temporary = os.path.join(self.scratch, "temporary")
+        os.mkdir(self.temporary)
+        self.page = os.path.join(self.scratch, "page.html")
+        self.environment = dict(os.environ, TMPDIR=self.temporary)
+        self.doctor_says([])
+
+    def stand_in(self, name, script):
+        """Puts a script in the place of a program."""
+        self.environment["DIQENYU_" + name.upper()] = write(os.path.join(self.scratch, "programs", name), "#!/bin/bash\n" + script, 0o755)
+
+    def doctor_says(self, warnings):
+        """The stand-in for the doctor has these warnings."""
+        said = write(os.path.join(self.scratch, "said"), "".join(line + "\n" for line in warnings) + "warnings %d\n" % len(warnings))
+        self.stand_in("doctor", "cat %s; exit %d\n" % (said, bool(warnings)))
+
+    def window(self, *words):
+        """The status, the output and the error lines. Nothing stays of what it wrote for itself."""
+        done = subprocess.run(["./window", *words], cwd=TOP, env=self.environment, stdin=subprocess.DEVNULL, stdout=subprocess.PIPE,
+                              stderr=subprocess.PIPE)
+        self.assertEqual(os.listdir(self.temporary), [])
+        return done.returncode, done.stdout.decode(), done.stderr.decode()
+
+    def test_campus(self):
+        status, output, errors = self.window(*CAMPUS, "--questions", "examples/campus/questions", "--title=Server subnet")
+        self.assertEqual((output, status), (CAMPUS_TOLD, 1), errors)
+
+    def test_question_that_fails_only_afterwards(self):
+        status, output, errors = self.window(*EDGE_DOWN, "--questions", "examples/campus-edge-down/questions")
+        self.assertEqual((output[-len(EDGE_DOWN_TOLD):], status), (EDGE_DOWN_TOLD, 1), errors)
+        self.assertLessEqual(len(output.splitlines()), 10)
+
+    def test_nothing_changes(self):
+        status, output, errors = self.window(CAMPUS[0], CAMPUS[0], CAMPUS[2])
+        self.assertEqual((output, status), (SAME_TOLD, 0), errors)
+
+    def test_warning_alone(self):
+        self.doctor_says(["links:3: R9 isn't there"])
+        status, output, errors = self.window(CAMPUS[0], CAMPUS[0], CAMPUS[2])
+        self.assertEqual((output.splitlines()[1:3], status), (["warnings: 1", "  links:3: R9 isn't there"], 1), errors)
+
+    def test_many_warnings(self):
+        self.doctor_says(["warning %d" % number for number in range(1, 8)])
+        status, output, errors = self.window(*CAMPUS, "--questions", "examples/campus/questions")
+        self.assertEqual(status, 1, errors)
+        self.assertEqual(output.splitlines()[1:4], ["warnings: 7, all by ./doctor " + " ".join(CAMPUS), "  warning 1", "  warning 2"])
+        self.assertLessEqual(len(output.splitlines()), 10)
+
+    def test_many_ingresses(self):
+        report = "".join("ingress R%d E0 rows 1\ndst * src * proto * dport * sport * flags *\nold drop\nnew exit R1 E1\n" % number
+                         for number in range(1, 6)) + "affected 5\n"
+        self.stand_in("review", "cat %s; exit 1\n" % write(os.path.join(self.scratch, "report"), report))
+        status, output, errors = self.window(*CAMPUS)
+        self.assertEqual(status, 1, errors)
+        self.assertEqual(output.splitlines()[2:6], [
+            "packets: something changes at 5 of 5 ingresses, 5 rows", "  R1 E0: 1 group gets through that didn't",
+            "  R2 E0: 1 group gets through that didn't", "  and 3 ingresses more"])
+
+    def test_new_links(self):
+        here = "examples/rewired/"
+        status, output, errors = self.window(here + "old", here + "new", here + "links", "--newlinks", here + "newlinks")
+        self.assertEqual((status, output.splitlines()[1]), (1, "warnings: none"), errors)
+
+    def test_page(self):
+        status, _, errors = self.window(*CAMPUS, "--page", self.page)
+        self.assertEqual(status, 1, errors)
+        self.assertIn("10.30.20.1", read(self.page))
+        self.assertEqual([name for name in os.listdir(self.scratch) if name.startswith(".window")], [])
+
+    def test_page_that_cannot_be_written(self):
+        status, output, errors = self.window(*CAMPUS, "--page", os.path.join(self.scratch, "none", "page.html"))
+        self.assertEqual((status, output), (6, ""))
+        self.assertEqual(errors.splitlines()[-1], "cannot write %s/none/page.html" % self.scratch)
+
+    def test_refused(self):
+        write(os.path.join(self.scratch, "new", "R1.cfg"), "hostname R1\nrouter ospf 1\n")
+        self.doctor_says(["%s/new/R1.cfg:2: refused NotCovered router" % self.scratch])
+        status, output, errors = self.window(CAMPUS[0], self.scratch + "/new", CAMPUS[2], "--page", self.page)
+        self.assertEqual((status, output), (3, ""))
+        self.assertEqual(errors.splitlines()[-2:], ["%s/new/R1.cfg:2: refused NotCovered router" % self.scratch,
+                                                    "refused %s/new/R1.cfg line 2 NotCovered router" % self.scratch])
+        self.assertFalse(os.path.exists(self.page))
+
+    def test_questions_that_are_refused(self):
+        questions = write(os.path.join(self.scratch, "questions"), "touch R1\n")
+        status, output, errors = self.window(*CAMPUS, "--questions", questions, "--page", self.page)
+        self.assertEqual((status, output, errors.splitlines()[-1]), (3, "", "refused %s line 1 BadWord touch" % questions))
+        self.assertFalse(os.path.exists(self.page))
+
+    def test_folder_that_is_not_there(self):
+        self.stand_in("doctor", "echo 'not found nowhere' >&2; exit 8\n")
+        self.assertEqual(self.window("nowhere", *CAMPUS[1:]), (8, "", "not found nowhere\n"))
+
+    def test_words(self):
+        for words in ([], CAMPUS[:2], CAMPUS + ["links"], CAMPUS + ["--all"], CAMPUS + ["--page"], CAMPUS + ["--page", "a", "--page", "b"],
+                      ["", *CAMPUS[1:]], ["--help", *CAMPUS]):
+            status, output, errors = self.window(*words)
+            self.assertEqual((status, output), (2, ""), words)
+            self.assertTrue(errors.encode().startswith(USAGE), words)
+
+    def test_help_and_version(self):
+        status, output, errors = self.window("--help")
+        self.assertEqual((status, errors), (0, ""))
+        self.assertTrue(output.encode().startswith(USAGE))
+        status, output, errors = self.window("--version")
+        self.assertEqual((status, errors), (0, ""))
+        self.assertRegex(output, r"\Awindow [0-9a-f]{12}\n\Z")
+
+    def test_interrupted(self):
+        begun = os.path.join(self.scratch, "begun")
+        self.stand_in("review", "touch %s; exec sleep 60\n" % begun)
+        running = subprocess.Popen(["./window", *CAMPUS, "--page", self.page], cwd=TOP, env=self.environment, stdin=subprocess.DEVNULL,
+                                   stdout=subprocess.PIPE, stderr=subprocess.PIPE)
+        end = time.monotonic() + 30
+        while not os.path.exists(begun) and time.monotonic() < end:
+            time.sleep(0.05)
+        running.send_signal(signal.SIGTERM)
+        output, errors = running.communicate(timeout=30)
+        self.assertEqual((running.returncode, output, errors), (130, b"", b"window: interrupted\n"))
+        self.assertEqual(os.listdir(self.temporary), [])
+        self.assertFalse(os.path.exists(self.page))
+
+    def test_output_that_is_full(self):
+        if not os.path.exists("/dev/full"):
+            self.skipTest("/dev/full isn't there")
+        with open("/dev/full", "wb") as full:
+            done = subprocess.run(["./window", *CAMPUS], cwd=TOP, env=self.environment, stdin=subprocess.DEVNULL, stdout=full,
+                                  stderr=subprocess.PIPE)
+        self.assertEqual((done.returncode, done.stderr.decode().splitlines()[-1]), (6, "cannot write"))
+
+
+if __name__ == "__main__":
+    unittest.main(verbosity=1)
