@@ -1,10 +1,10 @@
 # make install, make uninstall: the proved programs with their manual pages and completions, below PREFIX (with DESTDIR before it), from
-# the tree, where they have to be built (./review, ./rollout, ./view), or from an unpacked release.
+# the tree, where they have to be built (./review, ./rollout, ./view, ./doctor), or from an unpacked release; and window, which runs them.
 # PROGRAM_PREFIX stands before the programs' names, for a machine that has other programs of these names.
 PREFIX = /usr/local
 DESTDIR =
 PROGRAM_PREFIX =
-NAMES = review rollout view
+NAMES = review rollout view doctor
 
 to = $(DESTDIR)$(PREFIX)
 inside = $(to)/lib/diqenyu
@@ -32,13 +32,20 @@ install:
 	    sed 's/^complete .*/complete -F _diqenyu $(PROGRAM_PREFIX)'$$name/ completions/diqenyu.bash >"$(bash)/$(PROGRAM_PREFIX)$$name" && \
 	    sed '1s/.*/#compdef $(PROGRAM_PREFIX)'$$name'='$$name/ completions/_diqenyu >"$(zsh)/_$(PROGRAM_PREFIX)$$name" || exit 1; \
 	done
+	install -m 755 window '$(inside)/'
+	install -d '$(inside)/windowing'
+	install -m 644 windowing/*.py '$(inside)/windowing/'
+	ln -sfn ../lib/diqenyu/window '$(to)/bin/$(PROGRAM_PREFIX)window'
+	install -m 644 man/window.1 '$(to)/share/man/man1/$(PROGRAM_PREFIX)window.1'
+	sed 's/^complete .*/complete -F _diqenyu $(PROGRAM_PREFIX)window/' completions/diqenyu.bash >'$(bash)/$(PROGRAM_PREFIX)window'
+	sed '1s/.*/#compdef $(PROGRAM_PREFIX)window=window/' completions/_diqenyu >'$(zsh)/_$(PROGRAM_PREFIX)window'
 	install -m 644 man/diqenyu.7 '$(to)/share/man/man7/diqenyu.7'
 	install -m 644 README.md docs/*.md docs/*.png '$(pages)/'
 	if [ -e RELEASE ]; then install -m 644 RELEASE SOURCES PROGRAMS '$(pages)/'; fi
 	cp -R examples '$(pages)/'
 
 uninstall:
-	for name in $(NAMES); do \
+	for name in $(NAMES) window; do \
 	    rm -f "$(to)/bin/$(PROGRAM_PREFIX)$$name" "$(to)/share/man/man1/$(PROGRAM_PREFIX)$$name.1" \
 	        "$(bash)/$(PROGRAM_PREFIX)$$name" "$(zsh)/_$(PROGRAM_PREFIX)$$name"; \
 	done

@@ -1,4 +1,4 @@
-# Completions of review, rollout and view for bash: commands, options, files, and for trace the devices and interfaces of the folder
+# Completions of review, rollout, view, doctor and window for bash: commands, options, files, and for trace the devices and interfaces of the folder
 # that the line names. `source completions/diqenyu.bash` for one shell; `make install` for all.
 
 # The hostnames of a folder's configurations, and the interfaces of one device.
@@ -24,7 +24,7 @@ _diqenyu() {
         it=${COMP_WORDS[at]}
         case $only$it in
             --) only=' ' ;;
-            --workers | --ttl) at=$((at + 1)) ;;
+            --workers | --ttl | --newlinks | --questions | --page | --title) at=$((at + 1)) ;;
             --*) ;;
             *) given+=("${it/#\~/$HOME}") ;;
         esac
@@ -32,7 +32,8 @@ _diqenyu() {
     COMPREPLY=()
     if [ -z "$only" ]; then
         case ${COMP_WORDS[COMP_CWORD - 1]} in
-            --workers | --ttl) return ;;
+            --workers | --ttl | --title) return ;;
+            --newlinks | --questions | --page) files=1 ;;
         esac
     fi
     case ${1##*/} in
@@ -56,9 +57,20 @@ _diqenyu() {
                 1:audit | [1-3]:edits | [1-4]:rollout) files=1 ;;
             esac
             ;;
+        *doctor)
+            [ "${#given[@]}" -lt 4 ] && files=1
+            options=--all
+            [ "${#given[@]}" = 0 ] && options='--all --help --version'
+            ;;
+        *window)
+            [ "${#given[@]}" -lt 3 ] && files=1
+            options='--newlinks --questions --page --title'
+            [ "${#given[@]}" = 0 ] && options="$options --help --version"
+            ;;
         *view)
             files=1
-            [ "${#given[@]}" = 0 ] && options=--html
+            [ "${#given[@]}" = 0 ] && options='--html --json --csv --title --help --version'
+            [ "${#given[@]}" = 1 ] && options=--title
             ;;
     esac
     if [ -z "$only" ] && [[ $word == -* ]]; then
@@ -70,4 +82,4 @@ _diqenyu() {
         mapfile -t COMPREPLY < <(compgen -W "$words" -- "$word")
     fi
 }
-complete -F _diqenyu review rollout view
+complete -F _diqenyu review rollout view doctor window

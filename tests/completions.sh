@@ -65,7 +65,15 @@ offers "--ttl" review trace --t
 offers "--workers" review gen 7 --
 offers "" review read --
 offers "" review compare --workers ""
-offers "--html" view --
+offers "--csv --help --html --json --title --version" view --
+offers "--all" doctor $campus/old --
+offers "--all --help --version" doctor --
+offers "$campus/links" doctor $campus/old $campus/new $campus/li
+offers "" doctor --all a b c d $campus/li
+offers "--newlinks --page --questions --title" window $campus/old --
+offers "$campus/questions" window --questions $campus/q
+offers "$campus/links" window --title A $campus/old $campus/new $campus/li
+offers "" window a b c $campus/li
 offers "$campus/expected" view --html $campus/exp
 offers "$campus/new" rollout audit $campus/ne
 offers "R1 R2" review trace "$scratch" $campus/links ""

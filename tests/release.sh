@@ -30,14 +30,14 @@ wants() {
 tree() {
     local name crate part
     mkdir -p "$1/crates"
-    cp -R launch review rollout view release Makefile README.md HANDLES crates.txt docs man completions examples "$1/"
-    for crate in $(for name in review rollout view; do ./launch --crates $name; done | sort -u); do
+    cp -R launch review rollout view doctor window windowing release Makefile README.md HANDLES crates.txt docs man completions examples "$1/"
+    for crate in $(for name in review rollout view doctor; do ./launch --crates $name; done | sort -u); do
         mkdir "$1/crates/$crate"
         for part in src specs proofs; do
             [ -d "crates/$crate/$part" ] && cp -R "crates/$crate/$part" "$1/crates/$crate/"
         done
     done
-    for name in review rollout view; do
+    for name in review rollout view doctor; do
         mkdir "$1/crates/${name}_cli/out"
         printf '#!/bin/sh\necho "%s $*"\nexit 1\n' "$name" >"$1/crates/${name}_cli/out/${name}_cli"
         chmod +x "$1/crates/${name}_cli/out/${name}_cli"
@@ -88,7 +88,7 @@ if command -v make >/dev/null 2>&1; then
         to=$scratch/installed
         make -C "$from" install DESTDIR="$to" PREFIX=/opt/here >"$scratch/out" 2>"$scratch/err"
         wants "an installation from $from" test -x "$to/opt/here/bin/review"
-        for name in review rollout view; do
+        for name in review rollout view doctor; do
             wants "$name is installed" runs 1 "$name a" env -i PATH=/usr/bin:/bin "$to/opt/here/bin/$name" a
             wants "its page" test -s "$to/opt/here/share/man/man1/$name.1"
             wants "its completion for bash" grep -q "^complete -F _diqenyu $name\$" "$to/opt/here/share/bash-completion/completions/$name"
