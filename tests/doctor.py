@@ -134,6 +134,9 @@ TOLD = [
     ("a lan of two subnets", net(r2=R2.replace("10.0.1.2", "10.0.5.2"), links=LINKS.replace("p2p", "lan")), NET, [r"links:2: .*R2 Ethernet0"]),
     ("masks that differ", net(r2=R2.replace("255.255.255.252", "255.255.255.248")), NET, [r"links:2: .*R2 Ethernet0"]),
     ("a link that was forgotten", net(links=ONE), NET, [r".*R2 Ethernet0.*R1 Ethernet1"]),
+    ("a next hop on a lan that no end has", net(R1 + "interface Ethernet2\n ip address 10.0.3.1 255.255.255.0\nip route 10.7.0.0 255.255.0.0 10.0.3.9\n",
+                                                R2 + "interface Ethernet2\n ip address 10.0.3.2 255.255.255.0\n",
+                                                LINKS + "lan R1 Ethernet2 R2 Ethernet2\n"), NET, [r"links:3: .*R1 Ethernet2.*10\.0\.3\.9"]),
     # ---- lists and routes
     ("a list that isn't there", at(0, " ip access-group 101 in"), NET, [r"net/R1\.cfg: .*101"]),
     ("a list without an entry", at(0, " ip access-group A in") | {"net/R1.cfg": R1.replace(

@@ -1,6 +1,6 @@
 -- What is told of a link table: its refusal, by its own words or for the networks that it wires; or the places that are worth a
 -- look, where it isn't refused.
-use Rattle.std.specs.Prelude.{ℕ, Bool, true, false, List, [], ◌∷◌, map, Option, Some, None, Result, Ok, Err, is_some, if◌then◌else◌}
+use Rattle.std.specs.Prelude.{ℕ, Bool, true, false, List, [], ◌∷◌, ◌++◌, map, Option, Some, None, Result, Ok, Err, is_some, if◌then◌else◌}
 use Rattle.std.specs.List.{list_any}
 use Rattle.net_types.specs.declared.config.Loaded.{Loaded}
 use Rattle.ios_config.specs.Reads.{effects, refusal}
@@ -15,7 +15,9 @@ use Rattle.topo_links.specs.Table.{table_of}
 use Rattle.topo_links.specs.Check.{table_fault, own_table_fault}
 use Rattle.place_checks.specs.declared.finding.Networks.TheVariants as networks
 use Rattle.place_checks.specs.declared.finding.PlaceFinding.{PlaceFinding}
+use Rattle.place_checks.specs.declared.strays.StrayNext.{StrayNext}
 use Rattle.place_checks.specs.Findings.{Pair, place_findings}
+use Rattle.place_checks.specs.Strays.{stray_findings}
 use Rattle.doctor_warnings.specs.declared.files.TextFile.{TextFile}
 use Rattle.doctor_warnings.specs.declared.tables.Nets.{Nets}
 use Rattle.doctor_warnings.specs.declared.wiring.Wiring.{Wiring}
@@ -90,9 +92,14 @@ fault_of false (Some nets) lines = table_fault nets.0 nets.1 lines
 abbrev pub places_told : List ℕ → Bool → List PlaceFinding → List Warning
 places_told path two found = map (λ f. warning.Place path two f) found
 
+abbrev pub strays_told : List ℕ → Bool → List StrayNext → List Warning
+strays_told path two found = map (λ s. warning.Stray path two s) found
+
+-- the places that are worth a look, and then the next hops on lans that no end has
 abbrev pub place_warnings : Wiring → List ℕ → Option (List Loaded × List Loaded) → List LinkLine → List Warning
 place_warnings w path None lines = []
-place_warnings w path (Some nets) lines = places_told path (are_two w) (place_findings (judged w nets) lines)
+place_warnings w path (Some nets) lines =
+    places_told path (are_two w) (place_findings (judged w nets) lines) ++ strays_told path (are_two w) (stray_findings (judged w nets) lines)
 
 -- the refusal for the networks; or the places, where nothing is refused
 abbrev pub judged_warnings : Wiring → List ℕ → Option (List Loaded × List Loaded) → List ℕ → List LinkLine → Option LinkFail → List Warning

@@ -7,6 +7,7 @@ use Rattle.look_alikes.specs.Commands.{command_text}
 use Rattle.finding_texts.specs.ConfigTexts.{config_text}
 use Rattle.finding_texts.specs.PlaceTexts.{line_of, place_text}
 use Rattle.finding_texts.specs.Shown.{shown}
+use Rattle.finding_texts.specs.StrayTexts.{stray_text}
 use Rattle.doctor_warnings.specs.declared.warning.Reason.{Reason}
 use Rattle.doctor_warnings.specs.declared.warning.Reason.TheVariants as reason
 use Rattle.doctor_warnings.specs.declared.warning.Warning.{Warning}
@@ -43,6 +44,7 @@ warning_text (warning.Refused path line kind word text) =
 warning_text (warning.Passed path line r text) = head_text path line ++ reason_text r ++ shown_behind text
 warning_text (warning.Config path f) = head_text path 0 ++ config_text f
 warning_text (warning.Place path two f) = head_text path (line_of f) ++ place_text two f
+warning_text (warning.Stray path two s) = head_text path s.line ++ stray_text two s
 
 abbrev pub warning_line : Warning → List ℕ
 warning_line w = warning_text w ++ 10 ∷ []

@@ -2,7 +2,7 @@
 ghost use Rattle.std.specs.Prelude.{◌≡◌, [], ◌∷◌, ◌++◌, IfOk, OnOk, map, option_map};
 ghost use Rattle.topo_links.specs.NetIndex.{Judges};
 ghost use Rattle.place_checks.specs.Sights.{folders_of};
-ghost use Rattle.doctor_warnings.specs.Tables.{both_of, device_of, devices_of, fault_of, is_own, judged, judged_warnings, loaded_file, pair_of, place_warnings, places_told, refused_line, table_warnings};
+ghost use Rattle.doctor_warnings.specs.Tables.{both_of, device_of, devices_of, fault_of, is_own, judged, judged_warnings, loaded_file, pair_of, place_warnings, places_told, refused_line, strays_told, table_warnings};
 
 use crate::examined::Examined;
 use crate::files::{TextAt, TextFile};
@@ -11,7 +11,7 @@ use crate::warning::Warning;
 use crate::wiring::Wiring;
 use ios_config::Reading;
 use net_types::{Duplicate, List, Loaded, NoMemory, Text};
-use place_checks::{Folders, Networks, PlaceFinding, place_findings};
+use place_checks::{Folders, Networks, PlaceFinding, StrayNext, place_findings, stray_findings};
 use std::alloc::Global;
 use topo_links::{LinkFail, LinkRefusal, LinkTable, check, check_own, read_links};
 
@@ -163,7 +163,7 @@ fn judge(
     }
 }
 
-/// Adds the places that are worth a look, where the networks are known.
+/// Adds the places that are worth a look and the next hops that no end has, where the networks are known.
 fn add_places(
     alloc: Global,
     wiring: Wiring,
@@ -178,7 +178,25 @@ fn add_places(
         return Ok(());
     };
     let found = place_findings(alloc, folders_of(wiring, nets), links)?;
-    add_found(alloc, path, wiring.are_two(), found, warnings)
+    add_found(alloc, path, wiring.are_two(), found, warnings)?;
+    let strays = stray_findings(alloc, folders_of(wiring, nets), links)?;
+    add_strays(alloc, path, wiring.are_two(), strays, warnings)
+}
+
+fn add_strays(
+    alloc: Global,
+    path: &Text,
+    two: bool,
+    strays: Vec<StrayNext>,
+    warnings: &mut Vec<Warning>,
+) -> Result<(), NoMemory>
+    ensures { OnOk result (warnings.new.items ≡ warnings.old.items ++ strays_told path.now two strays.items) }
+{
+    for next in strays {
+        let path = path.copy(alloc)?;
+        warnings.push(Warning::Stray { path, two, next })?;
+    }
+    Ok(())
 }
 
 fn add_found(

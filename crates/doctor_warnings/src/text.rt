@@ -4,7 +4,9 @@ ghost use Rattle.std.specs.List.{flat_map};
 ghost use Rattle.doctor_warnings.specs.Texts.{head_text, look_text, reason_text, shown_behind, shown_word, warning_line, warning_text, warnings_text};
 
 use crate::warning::{Reason, Warning};
-use finding_texts::{append, append_config, append_number, append_place, append_shown, line_of};
+use finding_texts::{
+    append, append_config, append_number, append_place, append_shown, append_stray, line_of,
+};
 use look_alikes::LookAlike;
 use net_types::{NoMemory, Text};
 use std::alloc::Global;
@@ -71,6 +73,10 @@ fn append_warning(alloc: Global, out: &mut Vec<u8>, warning: &Warning) -> Result
         Warning::Place { path, two, finding } => {
             append_head(alloc, out, path, u64::from(line_of(finding)))?;
             append_place(out, *two, finding)
+        }
+        Warning::Stray { path, two, next } => {
+            append_head(alloc, out, path, u64::from(next.line))?;
+            append_stray(alloc, out, *two, next)
         }
     }
 }

@@ -3,7 +3,7 @@
 use config_checks::ConfigFinding;
 use look_alikes::LookAlike;
 use net_types::Text;
-use place_checks::PlaceFinding;
+use place_checks::{PlaceFinding, StrayNext};
 
 /// Why a line that is passed over is told.
 #[derive(Clone, Copy, Debug, PartialEq, Eq)]
@@ -55,5 +55,13 @@ pub enum Warning {
         /// Whether there are two networks.
         two: bool,
         finding: PlaceFinding,
+    },
+    /// A route's next hop is on a lan of which no end has it.
+    Stray {
+        /// That of the link table.
+        path: Text,
+        /// Whether there are two networks.
+        two: bool,
+        next: StrayNext,
     },
 }

@@ -1,3 +1,4 @@
 pub mod Shown
 pub mod PlaceTexts
+pub mod StrayTexts
 pub mod ConfigTexts

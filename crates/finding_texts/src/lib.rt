@@ -6,7 +6,9 @@
 mod adding;
 mod configs;
 mod places;
+mod strays;
 
 pub use adding::{append, append_number, append_shown};
 pub use configs::append_config;
 pub use places::{append_place, line_of};
+pub use strays::append_stray;

@@ -62,7 +62,7 @@ pub fn append_place(out: &mut Vec<u8>, two: bool, finding: &PlaceFinding) -> Res
 }
 
 /// `DEVICE INTERFACE`
-fn append_name(out: &mut Vec<u8>, place: &(Text, Text)) -> Result<(), NoMemory>
+pub(crate) fn append_name(out: &mut Vec<u8>, place: &(Text, Text)) -> Result<(), NoMemory>
     ensures { OnOk result (out.new.items ≡ out.old.items ++ place_name place.now) }
 {
     append_text(out, &place.0)?;
@@ -82,7 +82,8 @@ fn append_near(out: &mut Vec<u8>, near: &Option<(Text, Text)>) -> Result<(), NoM
     }
 }
 
-fn append_where(out: &mut Vec<u8>, two: bool, networks: Networks) -> Result<(), NoMemory>
+/// The network, where there are two and it isn't so in both.
+pub(crate) fn append_where(out: &mut Vec<u8>, two: bool, networks: Networks) -> Result<(), NoMemory>
     ensures { OnOk result (out.new.items ≡ out.old.items ++ where_text two networks) }
 {
     if !two {
