@@ -10,9 +10,10 @@ ghost use Rattle.job_inputs.specs.Folders.{GivesFolder, FolderStops};
 use ios_lines::Refusal;
 use job_core::Stop;
 use net_io::Files;
-use net_load::{LoadFail, load_folder};
+use net_load::{LoadFail, load_folder, load_folder_by_workers};
 use net_types::{Loaded, NoMemory, Text};
 use std::alloc::Global;
+use std::thread::Threads;
 
 /// The devices of a folder, in the order of their files; or why there are none: the first cause, by the folder, its listing, and
 /// then file by file.
@@ -27,6 +28,25 @@ pub fn read_folder<F: Files>(
     ensures same { F.told files.new ≡ F.told files.old }
 {
     match load_folder(alloc, files, folder) {
+        Ok(devices) => Ok(devices),
+        Err(fail) => Err(stop_of(alloc, fail)),
+    }
+}
+
+/// The same, where so many workers read the files' texts beside one another.
+pub fn read_folder_by_workers<F: Files, R: Threads + Sync>(
+    rt: &R,
+    workers: usize,
+    alloc: Global,
+    files: &mut F,
+    folder: &str,
+) -> Result<Vec<Loaded>, Stop>
+    ensures devices { IfSome (F.told files.old) (λ t. GivesFolder (λ devices. devices.items) t folder.now result) }
+    ensures names { IfOk result (λ devices. length (folder_names devices.items) ≤ folder_limit) }
+    ensures cause { HasCause (F.faults files.old) (F.faults files.new) result }
+    ensures same { F.told files.new ≡ F.told files.old }
+{
+    match load_folder_by_workers(rt, workers, alloc, files, folder) {
         Ok(devices) => Ok(devices),
         Err(fail) => Err(stop_of(alloc, fail)),
     }

@@ -5,4 +5,4 @@ mod config;
 mod folder;
 
 pub use config::config_in;
-pub use folder::read_folder;
+pub use folder::{read_folder, read_folder_by_workers};

@@ -3,3 +3,5 @@ pub mod Steps
 pub mod Listing
 pub mod OneAnswer
 pub mod Collected
+pub mod TextLemmas
+pub mod ReadingLemmas

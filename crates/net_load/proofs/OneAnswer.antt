@@ -1,5 +1,5 @@
 -- A folder has one answer.
-use Rattle.std.proofs.Common.{◌≡◌, ◌⊎◌, inl, inr, ℕ, ◌+◌, ◌<◌, ◌≤◌, true, false, List, [], ◌∷◌, ◌++◌, length, map, refl, sym, ap, subst, ◌∙◌, arith}
+use Rattle.std.proofs.Common.{◌≡◌, inl, inr, ℕ, ◌+◌, ◌≤◌, true, false, List, [], ◌∷◌, ◌++◌, length, map, refl, sym, ap, subst, ◌∙◌, arith}
 use Rattle.std.specs.Prelude.{Option, Some, None, Ok, Err, IsSomeAnd, unwrap_or, find}
 use Rattle.std.specs.List.{AllZip, IsDistinct, AllByRecursion}
 use Rattle.std.specs.Str.{bytes_eq}

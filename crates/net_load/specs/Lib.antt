@@ -2,3 +2,4 @@ pub mod Limits
 pub mod Numbering
 pub mod Folder
 pub mod Loader
+pub mod Texts

@@ -18,7 +18,7 @@ use Rattle.net_load.specs.declared.folder.LoadFail.{LoadFail}
 use Rattle.net_load.specs.declared.folder.LoadFail.TheVariants as fail
 use Rattle.net_load.specs.declared.loader.Loader.{Loader}
 use Rattle.net_load.specs.Numbering.{folder_names}
-use Rattle.net_load.specs.Folder.{IsRead, size_at, BytesFail, UnlessMemory, UnlessFault, FileFails, Fits, TakenBy}
+use Rattle.net_load.specs.Folder.{BytesFail, UnlessMemory, UnlessFault, Fits, TakenBy}
 
 -- the hostnames are those of the files, the files are within the limit, and they have no more names than bytes
 pub record IsLoader (l : Loader) : Type 0 where
@@ -72,15 +72,6 @@ abbrev pub ReadsFile : {T : Type 0} → (T → List ℕ) → Told → Word → R
 ReadsFile view t path (Ok x) = content t path ≡ Some (view x)
 ReadsFile view t path (Err e) = UnlessMemory e (UnlessFault e path (NoBytes path (content t path) e))
 
--- a file is one more configuration, or why not
-pub record AddsFile (t : Told) (folder name : Word) (old new : Loader) (l : Loaded) : Type 0 where
-  pub read : IsRead t folder name l
-  pub adds : Adds l (size_at t folder name) old new
-
-abbrev pub Steps : {T : Type 0} → Told → Word → Word → Loader → Loader → Result T LoadFail → Type 0
-Steps t folder name old new (Ok _) = (l : Loaded) × AddsFile t folder name old new l
-Steps t folder name old new (Err e) = UnlessMemory e (FileFails t folder old.total old.loaded.items name e)
-
 -- how a read's cause becomes a folder's
 abbrev pub load_fail_of : Word → ReadFail → LoadFail
 load_fail_of path read.Failed = fail.Fault path
@@ -92,3 +83,8 @@ abbrev pub list_fail_of : Word → FileFail → LoadFail
 list_fail_of path file.Failed = fail.Fault path
 list_fail_of path file.Absent = fail.Absent path
 list_fail_of path file.NoMemory = fail.NoMemory
+
+-- no read failed
+abbrev pub IsNoFault : LoadFail → Type 0
+IsNoFault (fail.Fault path) = ⊥
+IsNoFault _ = Unit {0}

@@ -1,16 +1,22 @@
 //! Loading a folder of configurations.
-ghost use Rattle.std.specs.Prelude.{◌≡◌, ◌≢◌, ◌≤◌, IfOk, IfSome, filter, length, map, string_bytes};
+ghost use Rattle.std.specs.Prelude.{◌≡◌, ◌≢◌, ◌≤◌, ℕ, List, All, IfErr, IfOk, IfSome, filter, length, map, string_bytes};
+ghost use Rattle.net_io.specs.Files.{Told};
+ghost use Rattle.topo_links.specs.Ends.{Word};
 ghost use Rattle.net_load.specs.Limits.{files_limit, folder_limit};
 ghost use Rattle.net_load.specs.Numbering.{folder_names};
-ghost use Rattle.net_load.specs.Folder.{is_config_name, Loads, Lists, HasCause};
+ghost use Rattle.net_load.specs.Folder.{is_config_name, Loads, LoadsNames, Lists, FaultRose, HasCause};
+ghost use Rattle.net_load.specs.Texts.{AreReadings, AreTexts, GivesTexts, IsText};
 ghost use Rattle.net_load.specs.Loader.{list_fail_of};
 ghost use Rattle.topo_links.specs.Names.{sorted_names};
 
-use crate::loader::load_files;
-use ios_config::Refusal;
+use crate::loader::load_texts;
+use crate::readings::read_by_workers;
+use crate::texts::{Texts, read_texts};
+use ios_config::{Reading, Refusal};
 use net_io::{FileFail, Files};
 use net_types::{Loaded, NoMemory, Text};
 use std::alloc::{AllocError, AllocFailed, Global};
+use std::thread::Threads;
 
 // The most files that a folder may have whose names end in `.cfg`.
 const FILES_LIMIT: usize = 1024;
@@ -150,11 +156,66 @@ pub fn load_folder<F: Files>(
     ensures same { F.told files.new ≡ F.told files.old }
     ensures cause { HasCause (F.faults files.old) (F.faults files.new) result }
 {
+    let texts = folder_texts(alloc, files, folder)?;
+    load_all(alloc, folder, texts, Vec::new(alloc))
+}
+
+/// Loads a folder as `load_folder` does, with the same answers: what the files are read as is found by so many workers beside
+/// one another.
+pub fn load_folder_by_workers<F: Files, R: Threads + Sync>(
+    rt: &R,
+    workers: usize,
+    alloc: Global,
+    files: &mut F,
+    folder: &str,
+) -> Result<Vec<Loaded>, LoadFail>
+    ensures exact { IfSome (F.told files.old) (λ t. Loads (λ loaded. loaded.items) t folder.now result) }
+    ensures few { IfOk result (λ loaded. length loaded.items ≤ files_limit) }
+    ensures names { IfOk result (λ loaded. length (folder_names loaded.items) ≤ folder_limit) }
+    ensures same { F.told files.new ≡ F.told files.old }
+    ensures cause { HasCause (F.faults files.old) (F.faults files.new) result }
+{
+    let texts = folder_texts(alloc, files, folder)?;
+    let known = read_by_workers(rt, alloc, workers, &texts.read)?;
+    load_all(alloc, folder, texts, known)
+}
+
+// The texts of a folder's configurations.
+fn folder_texts<F: Files>(alloc: Global, files: &mut F, folder: &str) -> Result<Texts, LoadFail>
+    ensures texts { IfSome (F.told files.old) (λ t. GivesTexts t folder.now result) }
+    ensures are { IfOk result (λ x. All (IsText folder.now) x.read.items × (length x.read.items ≤ files_limit)) }
+    ensures same { F.told files.new ≡ F.told files.old }
+    ensures later { F.faults files.old ≤ F.faults files.new }
+    ensures cause { HasCause (F.faults files.old) (F.faults files.new) result }
+    ensures stopped { IfOk result (λ x. IfSome x.stopped (λ e. FaultRose e (F.faults files.old) (F.faults files.new))) }
+{
     let names = list_configs(alloc, files, folder)?;
     if names.len() > FILES_LIMIT {
         return Err(LoadFail::TooManyFiles {
             path: Text::copy_of(alloc, folder.as_bytes())?,
         });
     }
-    load_files(alloc, files, folder, &names)
+    Ok(read_texts(alloc, files, folder, &names)?)
+}
+
+// The files of all texts, or the first cause why not. For some of them it may be known what they are read as.
+fn load_all(
+    alloc: Global,
+    folder: &str,
+    texts: Texts,
+    known: Vec<Option<Result<Reading, LoadFail>>>,
+) -> Result<Vec<Loaded>, LoadFail>
+    requires texts { All (IsText folder.now) texts.read.items }
+    requires known { AreReadings texts.read.items known.items }
+    ensures files { (t : Told) (names : List Word) → AreTexts t folder.now names texts → LoadsNames (λ loaded. loaded.items) t folder.now names result }
+    ensures count { IfOk result (λ loaded. length loaded.items ≡ length texts.read.items) }
+    ensures names { IfOk result (λ loaded. length (folder_names loaded.items) ≤ folder_limit) }
+    ensures fault { (before now : ℕ) → IfSome texts.stopped (λ e. FaultRose e before now) → IfErr result (λ e. FaultRose e before now) }
+{
+    let Texts { read, stopped } = texts;
+    let loaded = load_texts(alloc, folder, &read, known)?;
+    match stopped {
+        Some(fail) => Err(fail),
+        None => Ok(loaded),
+    }
 }

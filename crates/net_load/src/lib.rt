@@ -5,6 +5,8 @@ mod folder;
 pub mod laws;
 mod loader;
 mod numbering;
+mod readings;
+mod texts;
 
-pub use folder::{LoadFail, list_configs, load_folder};
+pub use folder::{LoadFail, list_configs, load_folder, load_folder_by_workers};
 pub use numbering::{Numbered, NumberedBoth, number_all, number_both};

@@ -1,19 +1,20 @@
-//! The files of a folder, loaded one after the other.
-ghost use Rattle.std.specs.Prelude.{◌≡◌, ◌≢◌, ◌≤◌, ◌+◌, ◌++◌, ◌∷◌, [], IfOk, IfSome, OnOk, Some, false, find, length, map, slice_get, string_bytes};
+//! The files of a folder, loaded one after the other from their texts.
+ghost use Rattle.std.specs.Prelude.{◌≡◌, ◌≤◌, ◌+◌, ◌++◌, ◌∷◌, [], All, IfErr, IfOk, IfSome, OnOk, Some, false, find, length, map, slice_get};
 ghost use Rattle.std.specs.Option.{option_copied};
 ghost use Rattle.std.specs.Str.{bytes_eq};
 ghost use Rattle.std.specs.List.{list_any};
-ghost use Rattle.net_io.specs.Limits.{file_limit};
-ghost use Rattle.net_io.specs.Files.{path_in};
+ghost use Rattle.net_io.specs.Files.{Told, path_in};
 ghost use Rattle.topo_links.specs.Check.{host_of};
 ghost use Rattle.net_load.specs.Limits.{folder_limit};
 ghost use Rattle.net_load.specs.Numbering.{config_names, folder_names};
-ghost use Rattle.net_load.specs.Folder.{LoadsNames, HasCause};
-ghost use Rattle.net_load.specs.Loader.{IsLoader, AddsReading, Accepts, ReadsBytes, ReadsFile, Steps, load_fail_of};
+ghost use Rattle.net_load.specs.Folder.{LoadsNames};
+ghost use Rattle.net_load.specs.Loader.{IsLoader, AddsReading, Accepts, IsNoFault};
+ghost use Rattle.net_load.specs.Texts.{IsText, Holds, ReadsText, AreReadings, file_of};
 
 use crate::folder::{FOLDER_LIMIT, LoadFail};
-use ios_config::{ConfigFail, Reading, read_config};
-use net_io::{Files, ReadFail, read_all};
+use crate::readings::{read_text, take_reading};
+use crate::texts::{FileText, path_text};
+use ios_config::Reading;
 use net_types::{Duplicate, Loaded, NoMemory, Text};
 use std::alloc::Global;
 use topo_links::NameIndex;
@@ -26,71 +27,6 @@ pub struct Loader {
     pub hosts: NameIndex,
     /// How many bytes they have together.
     pub total: usize,
-}
-
-/// The path of a file, as text.
-fn path_text(alloc: Global, folder: &str, file: &Text) -> Result<Text, NoMemory>
-    ensures { IfOk result (λ path. path ≡ path_in folder.now file.now) }
-{
-    let mut path = folder.as_bytes().to_vec(alloc)?;
-    path.push(b'/')?;
-    path.extend_from_slice(file.as_bytes())?;
-    Ok(Text::new(path))
-}
-
-/// The path of a file.
-fn path_of(alloc: Global, folder: &str, name: &str) -> Result<String, NoMemory>
-    ensures { IfOk result (λ path. string_bytes path ≡ path_in folder.now name.now) }
-{
-    let mut path = folder.to_string(alloc)?;
-    path.push('/')?;
-    path.push_str(name)?;
-    Ok(path)
-}
-
-/// The failure of a read of this file.
-fn read_fail(alloc: Global, path: &str, cause: ReadFail) -> LoadFail
-    ensures { result ≢ LoadFail.NoMemory → result ≡ load_fail_of path.now cause }
-{
-    let path = match Text::copy_of(alloc, path.as_bytes()) {
-        Err(NoMemory) => return LoadFail::NoMemory,
-        Ok(path) => path,
-    };
-    match cause {
-        ReadFail::Failed => LoadFail::Fault { path },
-        ReadFail::TooLong => LoadFail::TooLong { path },
-        ReadFail::NoMemory => LoadFail::NoMemory,
-        ReadFail::Absent => LoadFail::Absent { path },
-    }
-}
-
-/// The bytes of a file.
-fn read_file<F: Files>(alloc: Global, files: &mut F, path: &str) -> Result<Vec<u8>, LoadFail>
-    ensures file { IfSome (F.told files.old) (λ t. ReadsFile (λ bytes. bytes.items) t path.now result) }
-    ensures limit { IfOk result (λ bytes. length bytes.items ≤ file_limit) }
-    ensures same { F.told files.new ≡ F.told files.old }
-    ensures cause { HasCause (F.faults files.old) (F.faults files.new) result }
-{
-    match read_all(alloc, files, path) {
-        Ok(bytes) => Ok(bytes),
-        Err(cause) => Err(read_fail(alloc, path, cause)),
-    }
-}
-
-/// The configuration of the file at a path.
-fn read_bytes(alloc: Global, path: &Text, bytes: &[u8]) -> Result<Reading, LoadFail>
-    requires { length bytes.now ≤ file_limit }
-    ensures reads { ReadsBytes path.now bytes.now result }
-    ensures names { IfOk result (λ r. length (config_names r.config) ≤ length bytes.now) }
-{
-    match read_config(alloc, bytes) {
-        Ok(reading) => Ok(reading),
-        Err(ConfigFail::NoMemory) => Err(LoadFail::NoMemory),
-        Err(ConfigFail::Refused { refusal }) => Err(LoadFail::Refused {
-            path: path.copy(alloc)?,
-            refusal,
-        }),
-    }
 }
 
 impl Loader {
@@ -161,7 +97,7 @@ impl Loader {
     {
         if let Some(other) = self.taken(&loaded.config.hostname) {
             return Err(LoadFail::HostnameTaken {
-                first: path_text(alloc, folder, &other.file)?,
+                first: path_text(alloc, folder, other.file.as_bytes())?,
                 second: path,
             });
         }
@@ -169,72 +105,57 @@ impl Loader {
         Ok(())
     }
 
-    /// Adds a file of these bytes.
+    /// Adds the file of a text, where it is the next one. It may be read already.
     fn accept(
         &mut self,
         alloc: Global,
         folder: &str,
-        name: &str,
-        bytes: &[u8],
+        text: &FileText,
+        known: Option<Result<Reading, LoadFail>>,
     ) -> Result<(), LoadFail>
         requires loader { IsLoader self.old }
-        requires limit { length bytes.now ≤ file_limit }
-        ensures accepts { Accepts folder.now name.now bytes.now self.old self.new result }
+        requires text { IsText folder.now text.now }
+        requires known { IfSome known (ReadsText text.now) }
+        ensures accepts { Accepts folder.now text.now.file text.now.bytes.items self.old self.new result }
         ensures loader { OnOk result (IsLoader self.new) }
     {
-        if bytes.len() > FOLDER_LIMIT - self.total {
+        if text.bytes.len() > FOLDER_LIMIT - self.total {
             return Err(LoadFail::FolderTooLong {
                 path: Text::copy_of(alloc, folder.as_bytes())?,
             });
         }
-        let file = Text::copy_of(alloc, name.as_bytes())?;
-        let path = path_text(alloc, folder, &file)?;
-        let Reading { config, passed } = read_bytes(alloc, &path, bytes)?;
+        let Reading { config, passed } = match known {
+            Some(reading) => reading?,
+            None => read_text(alloc, text)?,
+        };
         let loaded = Loaded {
-            file,
+            file: text.file.copy(alloc)?,
             config,
             passed,
         };
-        self.add_reading(alloc, folder, path, loaded, bytes.len())
-    }
-
-    /// Loads the file of this name.
-    pub fn load<F: Files>(
-        &mut self,
-        alloc: Global,
-        files: &mut F,
-        folder: &str,
-        name: &str,
-    ) -> Result<(), LoadFail>
-        requires loader { IsLoader self.old }
-        ensures step { IfSome (F.told files.old) (λ t. Steps t folder.now name.now self.old self.new result) }
-        ensures loader { OnOk result (IsLoader self.new) }
-        ensures more { OnOk result (length self.new.loaded.items ≡ length self.old.loaded.items + 1) }
-        ensures same { F.told files.new ≡ F.told files.old }
-        ensures cause { HasCause (F.faults files.old) (F.faults files.new) result }
-    {
-        let path = path_of(alloc, folder, name)?;
-        let bytes = read_file(alloc, files, path.as_str())?;
-        self.accept(alloc, folder, name, &bytes)
+        let path = text.path.copy(alloc)?;
+        self.add_reading(alloc, folder, path, loaded, text.bytes.len())
     }
 }
 
-/// Loads the files of these names, one after the other.
-pub fn load_files<F: Files>(
+/// Loads the files of these texts, one after the other. `known` has for some of them, by their positions, what they are read as.
+pub(crate) fn load_texts(
     alloc: Global,
-    files: &mut F,
     folder: &str,
-    names: &[String],
+    texts: &[FileText],
+    mut known: Vec<Option<Result<Reading, LoadFail>>>,
 ) -> Result<Vec<Loaded>, LoadFail>
-    ensures files { IfSome (F.told files.old) (λ t. LoadsNames (λ loaded. loaded.items) t folder.now (map string_bytes names.now) result) }
-    ensures count { IfOk result (λ loaded. length loaded.items ≡ length names.now) }
+    requires texts { All (IsText folder.now) texts.now }
+    requires known { AreReadings texts.now known.items }
+    ensures files { (t : Told) → All (Holds t folder.now) texts.now → LoadsNames (λ loaded. loaded.items) t folder.now (map file_of texts.now) result }
+    ensures count { IfOk result (λ loaded. length loaded.items ≡ length texts.now) }
     ensures names { IfOk result (λ loaded. length (folder_names loaded.items) ≤ folder_limit) }
-    ensures same { F.told files.new ≡ F.told files.old }
-    ensures cause { HasCause (F.faults files.old) (F.faults files.new) result }
+    ensures no_fault { IfErr result IsNoFault }
 {
     let mut loader = Loader::new(alloc);
-    for name in names {
-        loader.load(alloc, files, folder, name.as_str())?;
+    for at in 0..texts.len() {
+        let reading = take_reading(&mut known, at);
+        loader.accept(alloc, folder, &texts[at], reading)?;
     }
     let Loader {
         loaded,

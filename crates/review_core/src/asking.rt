@@ -12,7 +12,7 @@ ghost use Rattle.review_core.specs.Job.{Asks, AsksOn, AsksOver, AsksWith, IsAnsw
 
 use ask_query::{QuestionFail, answer, answers_bytes, failed_count, read_questions};
 use job_core::{Report, Stop, Wires, read_bytes, read_table};
-use job_inputs::read_folder;
+use job_inputs::read_folder_by_workers;
 use net_io::Files;
 use net_load::{Numbered, number_all};
 use net_types::{Loaded, NoMemory, Question};
@@ -34,7 +34,7 @@ pub(crate) fn ask_in_folder<F: Files, R: Threads + Wait + Sync, G: Gate + Sync>(
     ensures job { IfSome (F.told files.old) (λ t. Asks t asked.now result) }
     ensures cause { HasCause (F.faults files.old) (F.faults files.new) result }
 {
-    match read_folder(alloc, files, asked.net.as_str()) {
+    match read_folder_by_workers(by.rt, by.count as usize, alloc, files, asked.net.as_str()) {
         Ok(devices) => ask_over(by, alloc, files, devices, asked),
         Err(stop) => Err(stop),
     }

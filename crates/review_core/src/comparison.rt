@@ -13,7 +13,7 @@ ghost use Rattle.review_core.specs.Job.{AreFew, Compares, ComparesWith, Compares
 use crate::rows::any_rows;
 use crate::tables::{Tables, read_tables};
 use job_core::{Report, Stop};
-use job_inputs::read_folder;
+use job_inputs::read_folder_by_workers;
 use net_compare::compare_worlds;
 use net_forms::Networks;
 use net_io::Files;
@@ -38,7 +38,7 @@ pub(crate) fn compare_folders<F: Files, R: Threads + Wait + Sync, G: Gate + Sync
     ensures job { IfSome (F.told files.old) (λ t. Compares t asked.now result) }
     ensures cause { HasCause (F.faults files.old) (F.faults files.new) result }
 {
-    match read_folder(alloc, files, asked.old.as_str()) {
+    match read_folder_by_workers(by.rt, by.count as usize, alloc, files, asked.old.as_str()) {
         Ok(old) => compare_with(by, alloc, files, old, asked),
         Err(stop) => Err(stop),
     }
@@ -57,7 +57,7 @@ fn compare_with<F: Files, R: Threads + Wait + Sync, G: Gate + Sync>(
     ensures job { IfSome (F.told files.old) (λ t. ComparesWith t old.items asked.now result) }
     ensures cause { HasCause (F.faults files.old) (F.faults files.new) result }
 {
-    match read_folder(alloc, files, asked.new.as_str()) {
+    match read_folder_by_workers(by.rt, by.count as usize, alloc, files, asked.new.as_str()) {
         Ok(new) => compare_over(by, alloc, files, old, new, asked),
         Err(stop) => Err(stop),
     }

@@ -39,7 +39,7 @@ pub(crate) fn roll<F: Files, R: Threads + Wait + Sync, G: Gate + Sync>(
     ensures job { IfSome (F.told files.old) (λ t. Rolls t (paths asked.now) result) }
     ensures cause { HasCause (F.faults files.old) (F.faults files.new) result }
 {
-    match read_base(alloc, files, asked) {
+    match read_base(by, alloc, files, asked) {
         Ok(base) => roll_from(by, alloc, files, base, asked),
         Err(stop) => Err(stop),
     }

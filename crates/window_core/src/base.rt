@@ -12,10 +12,12 @@ ghost use Rattle.window_core.specs.Window.{HasFewNames};
 
 use crate::words::Asked;
 use job_core::{Stop, Wires, read_table};
-use job_inputs::read_folder;
+use job_inputs::read_folder_by_workers;
 use net_io::Files;
 use net_types::{List, Loaded};
 use std::alloc::Global;
+use std::thread::Threads;
+use steal_pool::Workers;
 use topo_links::LinkTable;
 
 /// The network before all changes, and how it is wired.
@@ -26,13 +28,18 @@ pub struct Base {
 }
 
 /// The network that the words name, with its link table, which is judged with the network as both.
-pub(crate) fn read_base<F: Files>(alloc: Global, files: &mut F, asked: &Asked) -> Result<Base, Stop>
+pub(crate) fn read_base<F: Files, R: Threads + Sync, G>(
+    by: &Workers<R, G>,
+    alloc: Global,
+    files: &mut F,
+    asked: &Asked,
+) -> Result<Base, Stop>
     ensures base { IfSome (F.told files.old) (λ t. GivesBase t (paths asked.now) result) }
     ensures names { IfOk result HasFewNames }
     ensures cause { HasCause (F.faults files.old) (F.faults files.new) result }
     ensures same { F.told files.new ≡ F.told files.old }
 {
-    match read_folder(alloc, files, asked.net) {
+    match read_folder_by_workers(by.rt, by.count as usize, alloc, files, asked.net) {
         Ok(devices) => with_table(alloc, files, devices, asked.links),
         Err(stop) => Err(stop),
     }
