@@ -2,10 +2,13 @@ pub mod Names
 pub mod Lines
 pub mod Words
 pub mod Reports
+pub mod Csv
 pub mod Json
 pub mod Views
 pub mod Escape
 pub mod NumberNames
 pub mod FieldWords
+pub mod Style
+pub mod Script
 pub mod Markup
 pub mod Pages

@@ -1,84 +1,189 @@
--- The constant parts of a page, by their names.
-use Rattle.std.specs.Prelude.{ℕ, List}
+-- The constant parts of a page. The rules of its style and its script, each one text, stand in files of their own.
+use Rattle.std.specs.Prelude.{ℕ, List, ◌++◌, codes}
 use Rattle.view_core.specs.declared.markup.Markup.{Markup}
 use Rattle.view_core.specs.declared.markup.Markup.TheVariants as markup
-use Rattle.view_core.specs.declared.markup.TheConstants as text
+use Rattle.view_core.specs.Style.{style_rules}
+use Rattle.view_core.specs.Script.{script_code}
 
 -- the text of a part
 unfoldable pub markup_text : Markup → List ℕ
-markup_text markup.Doctype = text.DOCTYPE.now
-markup_text markup.Head = text.HEAD.now
-markup_text markup.Style = text.STYLE.now
-markup_text markup.Untitled = text.UNTITLED.now
-markup_text markup.Summary = text.SUMMARY.now
-markup_text markup.Nothing = text.NOTHING.now
-markup_text markup.Some = text.SOME.now
-markup_text markup.GroupsOf = text.GROUPS_OF.now
-markup_text markup.RowsAt = text.ROWS_AT.now
-markup_text markup.Of = text.OF.now
-markup_text markup.Ingresses = text.INGRESSES.now
-markup_text markup.Counts = text.COUNTS.now
-markup_text markup.CountsRow = text.COUNTS_ROW.now
-markup_text markup.CountsFirst = text.COUNTS_FIRST.now
-markup_text markup.CountsNext = text.COUNTS_NEXT.now
-markup_text markup.CountsRowEnd = text.COUNTS_ROW_END.now
-markup_text markup.AllIngresses = text.ALL_INGRESSES.now
-markup_text markup.CountsEnd = text.COUNTS_END.now
-markup_text markup.Untouched = text.UNTOUCHED.now
-markup_text markup.UntouchedOf = text.UNTOUCHED_OF.now
-markup_text markup.Item = text.ITEM.now
-markup_text markup.ItemEnd = text.ITEM_END.now
-markup_text markup.UntouchedEnd = text.UNTOUCHED_END.now
-markup_text markup.Form = text.FORM.now
-markup_text markup.Choice = text.CHOICE.now
-markup_text markup.ChoiceName = text.CHOICE_NAME.now
-markup_text markup.ChoiceEnd = text.CHOICE_END.now
-markup_text markup.Changes = text.CHANGES.now
-markup_text markup.Table = text.TABLE.now
-markup_text markup.RowLoops = text.ROW_LOOPS.now
-markup_text markup.RowCloses = text.ROW_CLOSES.now
-markup_text markup.RowOpens = text.ROW_OPENS.now
-markup_text markup.RowMoves = text.ROW_MOVES.now
-markup_text markup.RowTranslated = text.ROW_TRANSLATED.now
-markup_text markup.RowFields = text.ROW_FIELDS.now
-markup_text markup.RowPlace = text.ROW_PLACE.now
-markup_text markup.CellLoops = text.CELL_LOOPS.now
-markup_text markup.CellCloses = text.CELL_CLOSES.now
-markup_text markup.CellOpens = text.CELL_OPENS.now
-markup_text markup.CellMoves = text.CELL_MOVES.now
-markup_text markup.CellTranslated = text.CELL_TRANSLATED.now
-markup_text markup.CellOld = text.CELL_OLD.now
-markup_text markup.CellNew = text.CELL_NEW.now
-markup_text markup.RowEnd = text.ROW_END.now
-markup_text markup.Break = text.BREAK.now
-markup_text markup.TableEnd = text.TABLE_END.now
-markup_text markup.Rest = text.REST.now
-markup_text markup.LineLoops = text.LINE_LOOPS.now
-markup_text markup.LineCloses = text.LINE_CLOSES.now
-markup_text markup.LineOpens = text.LINE_OPENS.now
-markup_text markup.LineMoves = text.LINE_MOVES.now
-markup_text markup.LineTranslated = text.LINE_TRANSLATED.now
-markup_text markup.Tab = text.TAB.now
-markup_text markup.LineEnd = text.LINE_END.now
-markup_text markup.Colon = text.COLON.now
-markup_text markup.Blank = text.BLANK.now
-markup_text markup.Semicolon = text.SEMICOLON.now
-markup_text markup.Network = text.NETWORK.now
-markup_text markup.NetworkEnd = text.NETWORK_END.now
-markup_text markup.Link = text.LINK.now
-markup_text markup.LinkBend = text.LINK_BEND.now
-markup_text markup.LinkTo = text.LINK_TO.now
-markup_text markup.LinkEnd = text.LINK_END.now
-markup_text markup.Device = text.DEVICE.now
-markup_text markup.Ends = text.ENDS.now
-markup_text markup.Enters = text.ENTERS.now
-markup_text markup.DeviceName = text.DEVICE_NAME.now
-markup_text markup.DeviceAcross = text.DEVICE_ACROSS.now
-markup_text markup.DeviceDown = text.DEVICE_DOWN.now
-markup_text markup.DeviceText = text.DEVICE_TEXT.now
-markup_text markup.DeviceTextDown = text.DEVICE_TEXT_DOWN.now
-markup_text markup.DeviceTextName = text.DEVICE_TEXT_NAME.now
-markup_text markup.DeviceEnd = text.DEVICE_END.now
-markup_text markup.Legend = text.LEGEND.now
-markup_text markup.Script = text.SCRIPT.now
-markup_text markup.RestEnd = text.REST_END.now
+markup_text markup.Doctype = codes "<!doctype html>\n"
+markup_text markup.Head =
+    codes "<html lang='en'>\n"
+    ++ codes "<head>\n"
+    ++ codes "<meta charset='utf-8'>\n"
+    ++ codes "<meta name='viewport' content='width=device-width, initial-scale=1'>\n"
+    ++ codes "<title>"
+markup_text markup.Style =
+    codes "</title>\n"
+    ++ codes "<style>\n"
+    ++ style_rules
+    ++ codes "</style>\n"
+    ++ codes "</head>\n"
+    ++ codes "<body>\n"
+    ++ codes "<main>\n"
+    ++ codes "<h1>"
+markup_text markup.Untitled = codes "What the change does to packets"
+markup_text markup.Summary =
+    codes "</h1>\n"
+    ++ codes "<section aria-labelledby='sum'>\n"
+    ++ codes "<h2 id='sum'>Summary</h2>\n"
+markup_text markup.Nothing = codes "<p>No packet is treated differently at any of "
+markup_text markup.Some = codes "<p>"
+markup_text markup.GroupsOf = codes " groups of "
+markup_text markup.RowsAt = codes " rows, at "
+markup_text markup.Of = codes " of "
+markup_text markup.Ingresses = codes " ingresses.</p>\n"
+markup_text markup.Counts =
+    codes "<table id='counts'>\n"
+    ++ codes "<caption>Groups by ingress and kind of change</caption>\n"
+    ++ codes "<thead><tr><th scope='col'>Ingress</th><th scope='col'>loops</th><th scope='col'>closes</th><th scope='col'>opens</th><th scope='col'>moves</th><th scope='col'>translated otherwise</th><th scope='col'>rows</th></tr></thead>\n"
+    ++ codes "<tbody>\n"
+markup_text markup.CountsRow = codes "<tr><th scope='row'>"
+markup_text markup.CountsFirst = codes "</th><td>"
+markup_text markup.CountsNext = codes "</td><td>"
+markup_text markup.CountsRowEnd = codes "</td></tr>\n"
+markup_text markup.AllIngresses = codes "all ingresses"
+markup_text markup.CountsEnd =
+    codes "</tbody>\n"
+    ++ codes "</table>\n"
+markup_text markup.Untouched = codes "<details><summary>Nothing changes at "
+markup_text markup.UntouchedOf =
+    codes " ingresses</summary>\n"
+    ++ codes "<ul>\n"
+markup_text markup.Item = codes "<li>"
+markup_text markup.ItemEnd = codes "</li>\n"
+markup_text markup.UntouchedEnd =
+    codes "</ul>\n"
+    ++ codes "</details>\n"
+markup_text markup.Form =
+    codes "</section>\n"
+    ++ codes "<section aria-labelledby='list'>\n"
+    ++ codes "<h2 id='list'>Groups</h2>\n"
+    ++ codes "<form id='filter'>\n"
+    ++ codes "<label>Addresses, prefixes, ports, protocols, devices, words of outcomes <input id='words' autocomplete='off' spellcheck='false' placeholder='10.0.0.1 tcp 443'></label>\n"
+    ++ codes "<label>Ingress <select id='place'><option value=''>all</option>"
+markup_text markup.Choice = codes "<option value='"
+markup_text markup.ChoiceName = codes "'>"
+markup_text markup.ChoiceEnd = codes "</option>"
+markup_text markup.Changes =
+    codes "</select></label>\n"
+    ++ codes "<label>Change <select id='change'><option value=''>all</option><option>loops</option><option>closes</option><option>opens</option><option>moves</option><option>translated otherwise</option></select></label>\n"
+    ++ codes "<button type='reset'>Clear</button>\n"
+    ++ codes "</form>\n"
+    ++ codes "<p id='told' role='status'></p>\n"
+    ++ codes "<p><output id='count' for='words place change'>"
+markup_text markup.Table =
+    codes " groups</output></p>\n"
+    ++ codes "<table id='groups'>\n"
+    ++ codes "<caption>Groups of headers that are treated differently</caption>\n"
+    ++ codes "<thead><tr><th scope='col'>Ingress</th><th scope='col'>Change</th><th scope='col'>Headers</th><th scope='col'>Old outcomes</th><th scope='col'>New outcomes</th></tr></thead>\n"
+    ++ codes "<tbody>\n"
+markup_text markup.RowLoops = codes "<tr class='loops' data-place='"
+markup_text markup.RowCloses = codes "<tr class='closes' data-place='"
+markup_text markup.RowOpens = codes "<tr class='opens' data-place='"
+markup_text markup.RowMoves = codes "<tr class='moves' data-place='"
+markup_text markup.RowTranslated = codes "<tr class='translated' data-place='"
+markup_text markup.RowFields = codes "' data-fields='"
+markup_text markup.RowPlace = codes "'><td data-of='Ingress'>"
+markup_text markup.CellLoops = codes "</td><td data-of='Change' class='change'>loops</td><td data-of='Headers'>"
+markup_text markup.CellCloses = codes "</td><td data-of='Change' class='change'>closes</td><td data-of='Headers'>"
+markup_text markup.CellOpens = codes "</td><td data-of='Change' class='change'>opens</td><td data-of='Headers'>"
+markup_text markup.CellMoves = codes "</td><td data-of='Change' class='change'>moves</td><td data-of='Headers'>"
+markup_text markup.CellTranslated =
+    codes "</td><td data-of='Change' class='change'>translated otherwise</td><td data-of='Headers'>"
+markup_text markup.CellOld = codes "</td><td data-of='Old'>"
+markup_text markup.CellNew = codes "</td><td data-of='New'>"
+markup_text markup.RowEnd = codes "</td></tr>\n"
+markup_text markup.Break = codes "<wbr>"
+markup_text markup.TableEnd =
+    codes "</tbody>\n"
+    ++ codes "</table>\n"
+    ++ codes "<noscript><p>Without a script the first groups of each kind are shown.</p></noscript>\n"
+    ++ codes "<button id='more' hidden>Show more</button>\n"
+    ++ codes "</section>\n"
+markup_text markup.Rest = codes "<script type='text/plain' id='rest'>\n"
+markup_text markup.LineLoops = codes "\tloops\t"
+markup_text markup.LineCloses = codes "\tcloses\t"
+markup_text markup.LineOpens = codes "\topens\t"
+markup_text markup.LineMoves = codes "\tmoves\t"
+markup_text markup.LineTranslated = codes "\ttranslated\t"
+markup_text markup.Tab = codes "\t"
+markup_text markup.LineEnd = codes "\n"
+markup_text markup.Colon = codes ":"
+markup_text markup.Blank = codes " "
+markup_text markup.Semicolon = codes ";"
+markup_text markup.Network =
+    codes "<figure aria-labelledby='net'>\n"
+    ++ codes "<h2 id='net'>Network</h2>\n"
+    ++ codes "<svg viewBox='0 0 "
+markup_text markup.NetworkEnd =
+    codes "' role='group' aria-label='The devices and their links, by their distance from the ingresses'>\n"
+markup_text markup.Link = codes "<path d='M"
+markup_text markup.LinkBend = codes " Q"
+markup_text markup.LinkTo = codes " "
+markup_text markup.LinkEnd = codes "'/>\n"
+markup_text markup.Device = codes "<g role='button' tabindex='0' aria-pressed='false' class='"
+markup_text markup.Ends = codes "ends "
+markup_text markup.Enters = codes "enters "
+markup_text markup.DeviceName = codes "' data-device='"
+markup_text markup.DeviceAcross = codes "'><circle r='13' cx='"
+markup_text markup.DeviceDown = codes "' cy='"
+markup_text markup.DeviceText = codes "'/><text x='"
+markup_text markup.DeviceTextDown = codes "' y='"
+markup_text markup.DeviceTextName = codes "'>"
+markup_text markup.DeviceEnd = codes "</text></g>\n"
+markup_text markup.Legend =
+    codes "</svg>\n"
+    ++ codes "<figcaption>A broken circle: packets enter there. A thick circle: an outcome names it. Levels are distances from the ingresses. A device that is pressed filters the groups.</figcaption>\n"
+    ++ codes "</figure>\n"
+markup_text markup.Script =
+    codes "</main>\n"
+    ++ codes "<script>\n"
+    ++ script_code
+    ++ codes "</script>\n"
+    ++ codes "</body>\n"
+    ++ codes "</html>\n"
+markup_text markup.RestEnd = codes "</script>\n"
+markup_text markup.AuditTitle = codes "Findings in access lists"
+markup_text markup.FindingsIn = codes " findings in "
+markup_text markup.ListsAnd = codes " lists; closing denials "
+markup_text markup.SummaryEnd = codes ".</p>\n"
+markup_text markup.AuditCounts =
+    codes "<table id='counts'>\n"
+    ++ codes "<caption>Findings by file and list</caption>\n"
+    ++ codes "<thead><tr><th scope='col'>List</th><th scope='col'>dead</th><th scope='col'>redundant</th><th scope='col'>closing denials</th></tr></thead>\n"
+    ++ codes "<tbody>\n"
+markup_text markup.AllLists = codes "all lists"
+markup_text markup.SectionEnd = codes "</section>\n"
+markup_text markup.List = codes "<section>\n<h2>"
+markup_text markup.ListFindings =
+    codes "</h2>\n"
+    ++ codes "<ul>\n"
+markup_text markup.Dead = codes "<li class='dead'>line "
+markup_text markup.Redundant = codes "<li>line "
+markup_text markup.DeadEntry = codes ", dead: <code>"
+markup_text markup.RedundantEntry = codes ", redundant: <code>"
+markup_text markup.EntryEnd = codes "</code>"
+markup_text markup.Takers =
+    codes "\n"
+    ++ codes "<ul>\n"
+markup_text markup.Taker = codes "<li>by line "
+markup_text markup.TakerEntry = codes ": <code>"
+markup_text markup.TakerRows = codes "</code>, rows "
+markup_text markup.Headers = codes "\n<details><summary>Headers</summary><pre>"
+markup_text markup.HeadersEnd = codes "</pre></details>"
+markup_text markup.Closings =
+    codes "<section>\n"
+    ++ codes "<h2>Closing denials</h2>\n"
+    ++ codes "<p>The last entries of lists that deny everything. The end of a list does so too.</p>\n"
+    ++ codes "<ul>\n"
+markup_text markup.ClosingLine = codes " line "
+markup_text markup.ListEnd =
+    codes "</ul>\n"
+    ++ codes "</section>\n"
+markup_text markup.ItemsEnd = codes "</ul>\n"
+markup_text markup.PageEnd =
+    codes "</main>\n"
+    ++ codes "</body>\n"
+    ++ codes "</html>\n"

@@ -3,7 +3,7 @@ ghost use Rattle.std.specs.Prelude.{◌≡◌, ◌++◌, ◌-◌, ◌≤◌, ◌
 ghost use Rattle.view_core.specs.FieldWords.{octet_text, is_whole_octet, has_whole_octets, octets_text, wildcard_text, is_prefix, prefix_of, more_addresses, addresses_text, masked_address_text, address_part};
 ghost use Rattle.report_text.specs.FieldText.{address_text};
 
-use crate::append::{append, append_number};
+use crate::appending::{append, append_number};
 use net_types::NoMemory;
 use report_groups::{Part, Pattern, Span};
 use report_text::address_bytes;

@@ -1,8 +1,10 @@
 //! The groups of a report as a table: one group in each line, each part in quotes.
-ghost use Rattle.std.specs.Prelude.{◌≡◌, ◌++◌, IfOk};
+ghost use Rattle.std.specs.Prelude.{◌≡◌, ◌++◌, IfOk, OnOk};
+ghost use Rattle.std.specs.List.{flat_map};
+ghost use Rattle.view_core.specs.Csv.{quoted_byte, quoted_text};
 ghost use Rattle.view_core.specs.Views.{csv_head, HasFront};
 
-use crate::append::{append, append_number};
+use crate::appending::{append, append_number};
 use crate::fields::{Kind, append_values, is_open, service_of, source_kind, width_of};
 use crate::flags::append_flags;
 use crate::summary::row_count;
@@ -112,15 +114,31 @@ fn append_next(out: &mut Vec<u8>, text: &[u8]) -> Result<(), NoMemory> {
     append_quoted(out, text)
 }
 
-// A part in quotes: a quote in it stands twice.
-fn append_quoted(out: &mut Vec<u8>, text: &[u8]) -> Result<(), NoMemory> {
+/// Adds a part of a line, in quotes: a quote in it stands twice. Where memory runs out, a part of it may stand there.
+#[tactic(auto, unfolding(crate::specs::Csv::quoted_text))]
+pub fn append_quoted(out: &mut Vec<u8>, text: &[u8]) -> Result<(), NoMemory>
+    ensures { OnOk result (out.new.items ≡ out.old.items ++ quoted_text text.now) }
+{
     append(out, b"\"")?;
-    for b in text {
-        if *b == b'"' {
-            append(out, b"\"\"")?;
-        } else {
-            append(out, &[*b])?;
-        }
-    }
+    append_quoted_bytes(out, text)?;
     append(out, b"\"")
+}
+
+fn append_quoted_bytes(out: &mut Vec<u8>, text: &[u8]) -> Result<(), NoMemory>
+    ensures { OnOk result (out.new.items ≡ out.old.items ++ flat_map quoted_byte text.now) }
+{
+    for b in text {
+        append_quoted_byte(out, *b)?;
+    }
+    Ok(())
+}
+
+fn append_quoted_byte(out: &mut Vec<u8>, b: u8) -> Result<(), NoMemory>
+    ensures { OnOk result (out.new.items ≡ out.old.items ++ quoted_byte b) }
+{
+    if b == b'"' {
+        append(out, b"\"\"")
+    } else {
+        append(out, &[b])
+    }
 }

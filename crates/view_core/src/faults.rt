@@ -2,7 +2,7 @@
 ghost use Rattle.std.specs.Prelude.{◌≤◌, IfOk, length};
 ghost use Rattle.view_core.specs.Names.{text_lines};
 
-use crate::append::append;
+use crate::appending::append;
 use crate::names::names_of;
 use net_types::NoMemory;
 use report_text::{ReportFail, read_report};

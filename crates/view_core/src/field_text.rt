@@ -2,7 +2,7 @@
 ghost use Rattle.std.specs.Prelude.{◌≡◌, ◌++◌, ◌-◌, ◌^◌, ◌≤◌, ◌<◌, IfOk, OnOk};
 ghost use Rattle.report_text.specs.FieldText.{address_text, prefix_length, address_field_text, number_field_text, partial_text};
 
-use crate::append::{append, append_number};
+use crate::appending::{append, append_number};
 use crate::numbers::append_ternary;
 use net_types::NoMemory;
 use report_text::address_bytes;

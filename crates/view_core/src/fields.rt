@@ -4,7 +4,7 @@ ghost use Rattle.std.specs.List.{join_by, list_all, list_any};
 ghost use Rattle.view_core.specs.FieldWords.{part_text, width_of, values_text, field_words, is_whole, is_open, is_only, is_served, service_with, service_of, is_icmp, source_kind, source_words, open_words, words_text};
 
 use crate::addresses::{append_address_part, power};
-use crate::append::append;
+use crate::appending::append;
 use crate::flags::append_flags;
 use crate::labels::Service;
 use crate::numbers::{append_message_part, append_port_part, append_protocol_part};

@@ -5,7 +5,7 @@ ghost use Rattle.report_text.specs.FieldText.{number_field_text};
 ghost use Rattle.report_text.specs.ReportText.{row_count};
 ghost use Rattle.view_core.specs.Json.{string_byte, string_text, key, string_member, place_members, address_change, port_change, outcome_members, outcome_text, outcomes_text, cube_members, fields_members, row_text, section_text, json_text};
 
-use crate::append::{append, append_number};
+use crate::appending::{append, append_number};
 use crate::escape::hex_digit;
 use crate::field_text::{address_field_bytes, number_field_bytes};
 use crate::text::name_of;
@@ -315,8 +315,8 @@ fn append_place(out: &mut Vec<u8>, names: &Names, place: Place) -> Result<(), No
     append_member(out, b"interface", name_of(names, place.interface))
 }
 
-// A member that is a string.
-fn append_member(out: &mut Vec<u8>, name: &[u8], text: &[u8]) -> Result<(), NoMemory>
+/// Adds a member that is a string. Where memory runs out, a part of it may stand there, here and below.
+pub fn append_member(out: &mut Vec<u8>, name: &[u8], text: &[u8]) -> Result<(), NoMemory>
     ensures { OnOk result (out.new.items ≡ out.old.items ++ string_member name.now text.now) }
 {
     append_key(out, name)?;
@@ -332,8 +332,9 @@ fn append_key(out: &mut Vec<u8>, name: &[u8]) -> Result<(), NoMemory>
     append(out, b"\": ")
 }
 
+/// Adds a string.
 #[tactic(auto, unfolding(crate::specs::Json::string_text))]
-fn append_string(out: &mut Vec<u8>, text: &[u8]) -> Result<(), NoMemory>
+pub fn append_string(out: &mut Vec<u8>, text: &[u8]) -> Result<(), NoMemory>
     ensures { OnOk result (out.new.items ≡ out.old.items ++ string_text text.now) }
 {
     append(out, b"\"")?;

@@ -5,7 +5,7 @@
 #![tactic(auto)]
 
 mod addresses;
-mod append;
+mod appending;
 mod csv;
 mod escape;
 mod faults;
@@ -28,6 +28,13 @@ mod text;
 mod top;
 mod words;
 
+pub use appending::{append, append_number};
+pub use csv::append_quoted;
 pub use escape::escaped_is_plain;
+pub use json::{append_member, append_string};
+pub use markup::Markup;
+pub use page::page_with;
+pub use reading::read_report_file;
+pub use sheet::Sheet;
 pub use top::view_run;
-pub use words::{Format, Manner};
+pub use words::{Format, Manner, behind_format, format_of};

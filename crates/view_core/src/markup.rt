@@ -4,7 +4,7 @@ ghost use Rattle.view_core.specs.Markup.{markup_text};
 
 /// A constant part of a page.
 #[derive(Clone, Copy, PartialEq, Eq)]
-pub(crate) enum Markup {
+pub enum Markup {
     /// How a page begins.
     Doctype,
     /// Behind that, up to the title.
@@ -157,6 +157,56 @@ pub(crate) enum Markup {
     Script,
     /// Behind the lines: the picture may follow.
     RestEnd,
+    /// The title of the page of an audit.
+    AuditTitle,
+    /// Between the number of findings and that of their lists.
+    FindingsIn,
+    /// Behind the number of all lists: that of closing denials follows.
+    ListsAnd,
+    /// Behind the last number of the summary.
+    SummaryEnd,
+    /// The table of counts of an audit begins.
+    AuditCounts,
+    /// The name of the row for all lists.
+    AllLists,
+    /// The end of a section.
+    SectionEnd,
+    /// A list with findings: its file and name follow.
+    List,
+    /// Behind its name.
+    ListFindings,
+    /// A dead entry: its line follows.
+    Dead,
+    /// A redundant entry: its line follows.
+    Redundant,
+    /// Its text follows.
+    DeadEntry,
+    /// Its text follows.
+    RedundantEntry,
+    /// Behind the text of an entry.
+    EntryEnd,
+    /// The entries that take its packets begin.
+    Takers,
+    /// An entry that takes some of its packets: its line follows.
+    Taker,
+    /// Its text follows.
+    TakerEntry,
+    /// How many rows it takes follows.
+    TakerRows,
+    /// These rows begin.
+    Headers,
+    /// Their end.
+    HeadersEnd,
+    /// The closing denials begin.
+    Closings,
+    /// Behind the file of a closing denial: its line follows.
+    ClosingLine,
+    /// The end of a list of items and its section.
+    ListEnd,
+    /// The end of a list of items in an item.
+    ItemsEnd,
+    /// The end of a page without a script.
+    PageEnd,
 }
 
 /// The text of a part.
@@ -241,6 +291,31 @@ pub(crate) fn markup_bytes(markup: Markup) -> &'static [u8]
         Markup::Legend => LEGEND,
         Markup::Script => SCRIPT,
         Markup::RestEnd => REST_END,
+        Markup::AuditTitle => AUDIT_TITLE,
+        Markup::FindingsIn => FINDINGS_IN,
+        Markup::ListsAnd => LISTS_AND,
+        Markup::SummaryEnd => SUMMARY_END,
+        Markup::AuditCounts => AUDIT_COUNTS,
+        Markup::AllLists => ALL_LISTS,
+        Markup::SectionEnd => SECTION_END,
+        Markup::List => LIST,
+        Markup::ListFindings => LIST_FINDINGS,
+        Markup::Dead => DEAD,
+        Markup::Redundant => REDUNDANT,
+        Markup::DeadEntry => DEAD_ENTRY,
+        Markup::RedundantEntry => REDUNDANT_ENTRY,
+        Markup::EntryEnd => ENTRY_END,
+        Markup::Takers => TAKERS,
+        Markup::Taker => TAKER,
+        Markup::TakerEntry => TAKER_ENTRY,
+        Markup::TakerRows => TAKER_ROWS,
+        Markup::Headers => HEADERS,
+        Markup::HeadersEnd => HEADERS_END,
+        Markup::Closings => CLOSINGS,
+        Markup::ClosingLine => CLOSING_LINE,
+        Markup::ListEnd => LIST_END,
+        Markup::ItemsEnd => ITEMS_END,
+        Markup::PageEnd => PAGE_END,
     }
 }
 
@@ -281,7 +356,8 @@ svg .ends circle { stroke: var(--mark); stroke-width: 5; }
 svg .enters circle { stroke-dasharray: 4 3; }
 svg [role=button] { cursor: pointer; }
 svg [aria-pressed=true] circle { fill: var(--link); }
-.loops, .closes { border-left: 6px solid var(--mark); }
+.loops, .closes, .dead { border-left: 6px solid var(--mark); padding-left: 0.3rem; }
+code, pre { overflow-wrap: anywhere; white-space: pre-wrap; }
 .opens { border-left: 6px solid var(--calm); }
 .loops .change, .closes .change { color: var(--mark); font-weight: bold; }
 .opens .change { color: var(--calm); }
@@ -648,3 +724,70 @@ show();
 ";
 
 const REST_END: &[u8] = b"</script>\n";
+
+const AUDIT_TITLE: &[u8] = b"Findings in access lists";
+
+const FINDINGS_IN: &[u8] = b" findings in ";
+
+const LISTS_AND: &[u8] = b" lists; closing denials ";
+
+const SUMMARY_END: &[u8] = b".</p>\n";
+
+const AUDIT_COUNTS: &[u8] = b"<table id='counts'>
+<caption>Findings by file and list</caption>
+<thead><tr><th scope='col'>List</th><th scope='col'>dead</th><th scope='col'>redundant</th><th scope='col'>closing denials</th></tr></thead>
+<tbody>
+";
+
+const ALL_LISTS: &[u8] = b"all lists";
+
+const SECTION_END: &[u8] = b"</section>\n";
+
+const LIST: &[u8] = b"<section>\n<h2>";
+
+const LIST_FINDINGS: &[u8] = b"</h2>
+<ul>
+";
+
+const DEAD: &[u8] = b"<li class='dead'>line ";
+
+const REDUNDANT: &[u8] = b"<li>line ";
+
+const DEAD_ENTRY: &[u8] = b", dead: <code>";
+
+const REDUNDANT_ENTRY: &[u8] = b", redundant: <code>";
+
+const ENTRY_END: &[u8] = b"</code>";
+
+const TAKERS: &[u8] = b"
+<ul>
+";
+
+const TAKER: &[u8] = b"<li>by line ";
+
+const TAKER_ENTRY: &[u8] = b": <code>";
+
+const TAKER_ROWS: &[u8] = b"</code>, rows ";
+
+const HEADERS: &[u8] = b"\n<details><summary>Headers</summary><pre>";
+
+const HEADERS_END: &[u8] = b"</pre></details>";
+
+const CLOSINGS: &[u8] = b"<section>
+<h2>Closing denials</h2>
+<p>The last entries of lists that deny everything. The end of a list does so too.</p>
+<ul>
+";
+
+const CLOSING_LINE: &[u8] = b" line ";
+
+const LIST_END: &[u8] = b"</ul>
+</section>
+";
+
+const ITEMS_END: &[u8] = b"</ul>\n";
+
+const PAGE_END: &[u8] = b"</main>
+</body>
+</html>
+";

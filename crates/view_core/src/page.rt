@@ -26,9 +26,17 @@ pub(crate) fn page_bytes(
     ensures escaped { IfOk result (λ text. ∥ IsPage text.items ∥₁) }
 {
     let behind = behind_doctype(alloc, names, sections, links, title)?;
+    page_with(alloc, &behind)
+}
+
+/// A page: its first line, and what stands behind it.
+pub fn page_with(alloc: Global, behind: &Sheet) -> Result<Vec<u8>, NoMemory>
+    ensures begins { IfOk result (λ text. starts_with nat_eq text.items page_head ≡ true) }
+    ensures escaped { IfOk result (λ text. ∥ IsPage text.items ∥₁) }
+{
     let mut page = Sheet::new(alloc);
     page.markup(Markup::Doctype)?;
-    page.part(&behind)?;
+    page.part(behind)?;
     Ok(page.finished())
 }
 

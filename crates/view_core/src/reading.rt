@@ -17,11 +17,7 @@ const REPORT_LIMIT: usize = 268_435_456;
 const ROOM: usize = 65_536;
 
 /// The bytes of a report, at most 268,435,456; or why there are none: it isn't there, it is longer, or a call on the files failed.
-pub(crate) fn read_report_file<F: Files>(
-    alloc: Global,
-    files: &mut F,
-    path: &str,
-) -> Result<Vec<u8>, Stop>
+pub fn read_report_file<F: Files>(alloc: Global, files: &mut F, path: &str) -> Result<Vec<u8>, Stop>
     ensures bytes { IfSome (F.told files.old) (λ t. GivesReport (λ bytes. bytes.items) path.now (content t path.now) result) }
     ensures cause { HasCause (F.faults files.old) (F.faults files.new) result }
     ensures same { F.told files.new ≡ F.told files.old }

@@ -9,16 +9,17 @@ use std::alloc::Global;
 
 /// A part of a page: constant parts, numbers and escaped text.
 #[derive(Drop)]
-pub(crate) struct Sheet {
-    bytes: Vec<u8>,
-    ghost written: { ∥ IsPage bytes.items ∥₁ },
+pub struct Sheet {
+    pub bytes: Vec<u8>,
+    pub ghost written: { ∥ IsPage bytes.items ∥₁ },
 }
 
 impl Sheet {
     ghost use Rattle.std.specs.Prelude.{◌≡◌, ◌++◌, [], OnOk};
     ghost use Rattle.view_core.specs.Markup.{markup_text};
 
-    pub(crate) fn new(alloc: Global) -> Sheet
+    /// Nothing yet.
+    pub fn new(alloc: Global) -> Sheet
         ensures { result.bytes.items ≡ [] }
     {
         Sheet {
@@ -27,20 +28,20 @@ impl Sheet {
     }
 
     /// Adds a constant part.
-    pub(crate) fn markup(&mut self, markup: Markup) -> Result<(), NoMemory>
+    pub fn markup(&mut self, markup: Markup) -> Result<(), NoMemory>
         ensures { OnOk result (self.new.bytes.items ≡ self.old.bytes.items ++ markup_text markup) }
     {
         append_whole(&mut self.bytes, markup_bytes(markup))
     }
 
     /// Adds a number.
-    pub(crate) fn number(&mut self, number: u64) -> Result<(), NoMemory> {
+    pub fn number(&mut self, number: u64) -> Result<(), NoMemory> {
         let mut buffer = Buffer::new();
         append_whole(&mut self.bytes, buffer.format(number).as_bytes())
     }
 
     /// Adds text: it is shown, and means nothing.
-    pub(crate) fn text(&mut self, text: &[u8]) -> Result<(), NoMemory> {
+    pub fn text(&mut self, text: &[u8]) -> Result<(), NoMemory> {
         for b in text {
             self.byte(*b)?;
         }
@@ -48,7 +49,7 @@ impl Sheet {
     }
 
     /// Adds text that may be broken behind a `/`.
-    pub(crate) fn name(&mut self, text: &[u8]) -> Result<(), NoMemory> {
+    pub fn name(&mut self, text: &[u8]) -> Result<(), NoMemory> {
         for b in text {
             self.byte(*b)?;
             if *b == b'/' {
@@ -59,14 +60,14 @@ impl Sheet {
     }
 
     /// Adds another part.
-    pub(crate) fn part(&mut self, part: &Sheet) -> Result<(), NoMemory>
+    pub fn part(&mut self, part: &Sheet) -> Result<(), NoMemory>
         ensures { OnOk result (self.new.bytes.items ≡ self.old.bytes.items ++ part.now.bytes.items) }
     {
         append_whole(&mut self.bytes, &part.bytes)
     }
 
     /// The bytes.
-    pub(crate) fn finished(self) -> Vec<u8>
+    pub fn finished(self) -> Vec<u8>
         ensures { result.items ≡ self.bytes.items }
     {
         let Sheet { bytes } = self;

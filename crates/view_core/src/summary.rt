@@ -1,6 +1,6 @@
 //! How many rows and groups there are of each kind of change, and of each outcome.
 
-use crate::append::{append, append_number};
+use crate::appending::{append, append_number};
 use crate::text::{ORDER, change_name};
 use indexmap::IndexMap;
 use net_types::{Names, NoMemory};

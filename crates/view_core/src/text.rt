@@ -3,7 +3,7 @@ ghost use Rattle.std.specs.Prelude.{◌≡◌, ◌++◌, length, IfOk, OnOk};
 ghost use Rattle.report_text.specs.ReportText.{name_text};
 ghost use Rattle.view_core.specs.Views.{HasFront, title_line, summary_head};
 
-use crate::append::{append, append_number};
+use crate::appending::{append, append_number};
 use crate::fields::append_fields;
 use crate::summary::{Counts, append_changes, append_outcome_counts, count_change};
 use net_types::{List, Names, NoMemory, Outcome, Place, Section, Text};

@@ -97,7 +97,8 @@ fn format_named(word: &[u8]) -> Option<Format>
     }
 }
 
-fn format_of(words: &[String]) -> Format
+/// The format that the first word asks for, and else text.
+pub fn format_of(words: &[String]) -> Format
     ensures { result ≡ format_of (map string_bytes words.now) }
 {
     match words {
@@ -106,7 +107,8 @@ fn format_of(words: &[String]) -> Format
     }
 }
 
-fn behind_format(words: &[String]) -> &[String]
+/// The words behind that one, or all where it asks for none.
+pub fn behind_format(words: &[String]) -> &[String]
     ensures { map string_bytes result.now ≡ behind_format (map string_bytes words.now) }
 {
     match words {

@@ -5,16 +5,16 @@ ghost use Rattle.std.specs.Prelude.{◌≡◌, ◌++◌, OnOk};
 use itoa::{Buffer, Integer};
 use net_types::NoMemory;
 
-// Each function adds a text at the end. Where memory runs out, a part of the text may stand there.
-
-pub(crate) fn append(out: &mut Vec<u8>, text: &[u8]) -> Result<(), NoMemory>
+/// Adds a text. Where memory runs out, a part of it may stand there.
+pub fn append(out: &mut Vec<u8>, text: &[u8]) -> Result<(), NoMemory>
     ensures { OnOk result (out.new.items ≡ out.old.items ++ text.now) }
 {
     out.extend_from_slice(text)?;
     Ok(())
 }
 
-pub(crate) fn append_number<I: Integer>(out: &mut Vec<u8>, number: I) -> Result<(), NoMemory>
+/// Adds a number in decimal, likewise.
+pub fn append_number<I: Integer>(out: &mut Vec<u8>, number: I) -> Result<(), NoMemory>
     ensures { OnOk result (out.new.items ≡ out.old.items ++ I.text number) }
 {
     let mut buffer = Buffer::new();
