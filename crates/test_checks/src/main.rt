@@ -5,10 +5,9 @@
 mod configs;
 mod networks;
 mod places;
-mod stop;
 
-use crate::stop::Stop;
 use std::io;
+use test_stop::Stop;
 
 fn show_all(rt: &HostRuntime) -> Result<(), Stop> {
     let old = networks::read(rt, "old")?;

@@ -1,8 +1,8 @@
 //! Headers as numbers, and the headers of a cube.
 
-use crate::stop::Stop;
 use crate::text::{cube, print_all};
 use hdr_bits::{Cube, Header};
+use test_stop::Stop;
 
 const HEADER: Header = Header {
     dst: 0x8000_0000,

@@ -8,13 +8,12 @@ mod pieces;
 mod rows;
 mod sets;
 mod stamps;
-mod stop;
 mod text;
 mod values;
 mod worked;
 
-use crate::stop::Stop;
 use std::io;
+use test_stop::Stop;
 
 fn show_all(rt: &HostRuntime) -> Result<(), Stop> {
     headers::show_headers(rt)?;

@@ -1,9 +1,9 @@
 //! Two cubes, the rest of one outside another, and the cut of a region by first match.
 
-use crate::stop::Stop;
 use crate::text::{cube, digits, print_all};
 use cube_alg::{Piece, covers, cut_within, first_cut, meet, meets, minus, split};
 use hdr_bits::Cube;
+use test_stop::Stop;
 
 /// What two cubes have in common, and the halves of one at its first `*` of the flags.
 pub(crate) fn show_pairs(rt: &HostRuntime) -> Result<(), Stop> {

@@ -1,7 +1,6 @@
 //! Canonical rows: a bit is `*` exactly where flipping it never changes the value, among all headers that agree with
 //! the earlier bits.
 
-use crate::stop::Stop;
 use crate::text::{cube, digits};
 use canon_rows::laws::{
     pieces_give_values, rows_are_constant, rows_are_disjoint, rows_are_one_list, rows_cover,
@@ -9,6 +8,7 @@ use canon_rows::laws::{
 };
 use canon_rows::recursion::canon_by_recursion;
 use canon_rows::{Piece, canon};
+use test_stop::Stop;
 
 struct Case {
     shows: &'static str,

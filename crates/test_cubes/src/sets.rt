@@ -1,11 +1,11 @@
 //! Sets of headers: what two have in common, what one has alone, their images, and the least member.
 
 use crate::diagrams::pieces;
-use crate::stop::Stop;
 use crate::text::{cube, print_all};
 use cube_alg::Stamp;
 use cube_diagram::Diagrams;
 use indexmap::{IndexMap, IndexSet};
+use test_stop::Stop;
 
 /// Each operation on one table.
 pub(crate) fn show(rt: &HostRuntime) -> Result<(), Stop> {

@@ -1,9 +1,9 @@
 //! Stamps: which headers they make, and which ones they send into a cube.
 
-use crate::stop::Stop;
 use crate::text::print_all;
 use cube_alg::Stamp;
 use hdr_bits::{Cube, Header};
+use test_stop::Stop;
 
 const HEADER: Header = Header {
     dst: 1,

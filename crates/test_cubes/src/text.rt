@@ -1,8 +1,8 @@
 //! Cubes as eight digits.
 
-use crate::stop::Stop;
 use hdr_bits::Cube;
 use std::alloc::Global;
+use test_stop::Stop;
 
 /// The cube of headers whose flags have these digits; each other bit is `*`.
 pub(crate) fn cube(digits: &str) -> Cube {

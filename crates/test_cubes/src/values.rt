@@ -4,10 +4,10 @@
 ghost use Rattle.std.specs.Prelude.{◌<◌};
 ghost use Rattle.cube_diagram.specs.Functions.{count_of};
 
-use crate::stop::Stop;
 use crate::text::{cube, digits};
 use cube_alg::Piece;
 use cube_diagram::{Diagrams, ValueSet};
+use test_stop::Stop;
 
 struct Case {
     shows: &'static str,

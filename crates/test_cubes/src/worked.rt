@@ -1,12 +1,12 @@
 //! Cases that are worked out in words: what is left of a prefix without an address, what a stamp sends into a cube, and the rows of
 //! pieces side by side, two of them and a piece for each port.
 
-use crate::stop::Stop;
 use crate::text::print_all;
 use canon_rows::{Piece, canon};
 use cube_alg::{Stamp, minus};
 use hdr_bits::Cube;
 use std::alloc::Global;
+use test_stop::Stop;
 
 /// The headers to the addresses that agree with this one in the bits of the mask.
 fn to_addresses(address: u32, mask: u32) -> Cube {

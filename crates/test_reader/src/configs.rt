@@ -3,13 +3,13 @@
 ghost use Rattle.std.specs.Prelude.{◌≤◌, length};
 ghost use Rattle.net_text.specs.Limits.{text_limit};
 
-use crate::stop::Stop;
 use ios_config::{ConfigFail, Reading, Refusal, read_config};
 use ios_print::print_config;
 use net_types::{Duplicate, NoMemory};
 use std::alloc::Global;
 use std::fs;
 use std::io::Write;
+use test_stop::Stop;
 
 /// The texts of the file `configurations`, each behind a line `==`, behind the line `hostname R1`.
 pub(crate) fn show_texts(rt: &HostRuntime) -> Result<(), Stop> {

@@ -1,9 +1,9 @@
 //! Folders of the system and what they are loaded as, or why not.
 
-use crate::stop::Stop;
 use net_io::RealFiles;
 use net_load::{LoadFail, load_folder};
 use net_types::{Loaded, Text};
+use test_stop::Stop;
 
 /// Folders with other files beside configurations, with one hostname twice, with a text that is refused; and one that isn't
 /// there.

@@ -1,10 +1,10 @@
 //! Link tables: what their texts are read as, and whether they fit two networks.
 
 use crate::devices::device;
-use crate::stop::Stop;
 use net_types::{Loaded, NoMemory, Text};
 use std::alloc::Global;
 use std::fs;
+use test_stop::Stop;
 use topo_links::{LinkFail, LinkKind, LinkLine, LinkRefusal, LinkTable, check, read_links};
 
 /// The old network. E0 of R2 is shut down, and R4 and R5 share two addresses.

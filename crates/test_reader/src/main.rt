@@ -6,10 +6,9 @@ mod configs;
 mod devices;
 mod folders;
 mod links;
-mod stop;
 
-use crate::stop::Stop;
 use std::io;
+use test_stop::Stop;
 
 fn show_all(rt: &HostRuntime) -> Result<(), Stop> {
     configs::show_texts(rt)?;

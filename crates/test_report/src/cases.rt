@@ -1,9 +1,9 @@
 //! Texts that are read as reports, and words that are read as fields.
 
-use crate::stop::Stop;
 use net_types::{List, Names, NoMemory, Section, Text};
 use report_text::{ReportFail, are_names, read_field, read_report};
 use std::alloc::Global;
+use test_stop::Stop;
 
 pub(crate) fn show(rt: &HostRuntime) -> Result<(), Stop> {
     let names = names_of(rt.alloc(), &["Ethernet0", "Ethernet1", "R1", "R2", "src"])?;

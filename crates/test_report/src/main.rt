@@ -3,10 +3,9 @@
 #![tactic(auto)]
 
 mod cases;
-mod stop;
 
-use crate::stop::Stop;
 use std::io;
+use test_stop::Stop;
 
 fn main(rt: HostRuntime) -> io::Result<()> {
     match cases::show(&rt) {

@@ -1,12 +1,12 @@
 //! Two causes at once: the first of them decides. The line says of how many runs how many ended as they must.
 
 use crate::runs::{COMPARE, TWO_LINKS, one_each, status_of};
-use crate::stop::Stop;
 use crate::tally::Tally;
 use net_io::{MemFiles, MemSink};
 use std::alloc::Global;
 use std::sync::Wait;
 use std::thread::Threads;
+use test_stop::Stop;
 
 // A configuration that is refused at its third line.
 const REFUSED: &[u8] = b"hostname R1

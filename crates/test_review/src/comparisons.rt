@@ -1,15 +1,15 @@
 //! The cases of the file `comparisons`: each a line `== NAME` and its files, each a line `-- PATH` and its lines. There are
-//! always the folders `old` and `new`, and a comparison gives the same by 1, 4 and 64 workers. Those of the file `commands` have besides the command lines that are run over the
-//! files, each behind `$ ` and with a blank between words.
+//! always the folders `old` and `new`, and a comparison gives the same by 1, 4 and 64 workers. The cases of the file `commands`
+//! have, besides their files, the command lines that are run over them, each behind `$ ` and with a blank between words.
 
 use crate::runs::{COMPARE, Finished, ran, show_line, show_ran};
-use crate::stop::Stop;
 use net_io::MemFiles;
 use std::alloc::Global;
 use std::fs;
 use std::sync::Wait;
 use std::thread::Threads;
 use steal_pool::OpenGate;
+use test_stop::Stop;
 
 pub(crate) fn show<R: Threads + Wait + Sync>(rt: &HostRuntime, threads: &R) -> Result<(), Stop> {
     let cases = fs::read_to_string(rt, "comparisons")?;

@@ -1,9 +1,9 @@
 //! Words that are no command, outputs without room, and reads that fail.
 
 use crate::runs::{COMPARE, INGRESS_SHUT, TWO_LINKS, one_each, show_run};
-use crate::stop::Stop;
 use std::sync::Wait;
 use std::thread::Threads;
+use test_stop::Stop;
 
 /// Words that are no command, and folders that aren't there.
 pub(crate) fn show_words<R: Threads + Wait + Sync>(

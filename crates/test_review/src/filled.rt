@@ -1,3 +1,5 @@
+//! Files without an end, in folders of one name.
+
 use net_io::{FileFail, Files};
 use std::alloc::{AllocError, Global};
 

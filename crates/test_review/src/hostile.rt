@@ -3,13 +3,13 @@
 use crate::causes;
 use crate::filled::Filled;
 use crate::runs::{COMPARE, one_each, status_of};
-use crate::stop::Stop;
 use crate::tally::Tally;
 use net_io::{MemFiles, MemSink};
 use std::alloc::Global;
 use std::fs;
 use std::sync::Wait;
 use std::thread::Threads;
+use test_stop::Stop;
 
 const LIST: &[u8] = b"hostname R1
 interface Ethernet0

@@ -1,11 +1,11 @@
 //! The limits on files and folders, each kept and passed.
 
 use crate::runs::{COMPARE, show_run};
-use crate::stop::Stop;
 use net_io::MemFiles;
 use std::alloc::Global;
 use std::sync::Wait;
 use std::thread::Threads;
+use test_stop::Stop;
 
 /// A folder `old` of so many files, each of so many bytes, and a folder `new` with R1 alone.
 fn files_of(alloc: Global, count: usize, size: usize) -> Result<MemFiles, Stop> {

@@ -15,14 +15,13 @@ mod memory;
 mod names;
 mod reports;
 mod runs;
-mod stop;
 mod system;
 mod tally;
 
-use crate::stop::Stop;
 use std::io;
 use std::sync::Wait;
 use std::thread::Threads;
+use test_stop::Stop;
 
 fn show_all<R: Threads + Wait + Sync>(rt: &HostRuntime, threads: &R) -> Result<(), Stop> {
     comparisons::show(rt, threads)?;

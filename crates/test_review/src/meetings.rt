@@ -2,10 +2,10 @@
 
 use crate::gates::Meeting;
 use crate::runs::{one_each, show_line};
-use crate::stop::Stop;
 use net_io::MemFiles;
 use std::sync::Wait;
 use std::thread::Threads;
+use test_stop::Stop;
 
 // A device with two links, at each of which packets enter.
 const BASE: &[u8] = b"hostname R1

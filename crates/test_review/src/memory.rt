@@ -1,9 +1,9 @@
 //! Files and sinks in memory.
 
 use crate::names::listed;
-use crate::stop::Stop;
 use net_io::{MemFiles, MemSink, ReadFail, read_all, write_all};
 use std::alloc::{AllocError, Global};
+use test_stop::Stop;
 
 /// Bytes that differ from piece to piece of a read.
 pub(crate) fn bytes_of(alloc: Global, count: usize) -> Result<Vec<u8>, AllocError> {

@@ -1,3 +1,5 @@
+//! The names in a folder, as one line.
+
 use net_io::{FileFail, Files};
 use std::alloc::{AllocError, Global};
 

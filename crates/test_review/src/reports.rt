@@ -1,7 +1,6 @@
 //! The parts of a report, and reports.
 
 use crate::runs::show_lines;
-use crate::stop::Stop;
 use hdr_bits::{Cube, Header};
 use net_types::{Label, List, Names, NoMemory, Outcome, Place, Row, Section, Text};
 use report_text::{
@@ -9,6 +8,7 @@ use report_text::{
     report_bytes,
 };
 use std::alloc::Global;
+use test_stop::Stop;
 
 const NONE: Header = Header {
     dst: 0,

@@ -1,6 +1,5 @@
 //! Runs of the program over files in memory.
 
-use crate::stop::Stop;
 use net_io::{Files, MemFiles, MemSink};
 use review_core::run;
 use std::alloc::{AllocError, Global};
@@ -8,6 +7,7 @@ use std::io::Write;
 use std::sync::Wait;
 use std::thread::Threads;
 use steal_pool::{Gate, OpenGate};
+use test_stop::Stop;
 
 /// The words of a comparison of the folders `old` and `new`.
 pub(crate) const COMPARE: [&str; 4] = ["compare", "old", "new", "links"];

@@ -2,9 +2,9 @@
 
 use crate::memory::{bytes_of, show_read};
 use crate::names::listed;
-use crate::stop::Stop;
 use net_io::{Files, RealFiles, RealSink, read_all, write_all};
 use std::fs;
+use test_stop::Stop;
 
 /// The folder `files` beside this program, a file for a folder, paths where nothing is, and a folder for a file.
 pub(crate) fn show_files(rt: &HostRuntime) -> Result<(), Stop> {

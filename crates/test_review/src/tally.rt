@@ -1,4 +1,6 @@
-use crate::stop::Stop;
+//! Runs, counted, and those among them that ended as they must.
+
+use test_stop::Stop;
 
 /// How many runs there were, and how many of them ended as they must.
 #[derive(Drop)]

@@ -1,11 +1,11 @@
 //! Audits of a folder of two devices.
 
 use crate::runs::{Program, ROOM, show_run};
-use crate::stop::Stop;
 use net_io::MemFiles;
 use std::alloc::Global;
 use std::sync::Wait;
 use std::thread::Threads;
+use test_stop::Stop;
 
 // The second entry is dead by the first one, and the last one redundant, since the end of a list denies.
 const LISTS: &[u8] = b"hostname R1

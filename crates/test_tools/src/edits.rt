@@ -1,11 +1,11 @@
 //! Reviews of edits on a network of one device with two lists.
 
 use crate::runs::{Program, ROOM, show_run};
-use crate::stop::Stop;
 use net_io::MemFiles;
 use std::alloc::Global;
 use std::sync::Wait;
 use std::thread::Threads;
+use test_stop::Stop;
 
 const R1: &[u8] = b"hostname R1
 interface Ethernet0

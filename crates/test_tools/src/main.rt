@@ -7,13 +7,12 @@ mod audits;
 mod edits;
 mod rollouts;
 mod runs;
-mod stop;
 mod views;
 
-use crate::stop::Stop;
 use std::io;
 use std::sync::Wait;
 use std::thread::Threads;
+use test_stop::Stop;
 
 fn show_all<R: Threads + Wait + Sync>(rt: &HostRuntime, threads: &R) -> Result<(), Stop> {
     audits::show(rt, threads)?;

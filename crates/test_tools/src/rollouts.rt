@@ -1,11 +1,11 @@
 //! Rollouts on a network of two devices with a default route at each other.
 
 use crate::runs::{Program, ROOM, ran, show_run};
-use crate::stop::Stop;
 use net_io::MemFiles;
 use std::alloc::Global;
 use std::sync::Wait;
 use std::thread::Threads;
+use test_stop::Stop;
 
 const R1: &[u8] = b"hostname R1
 interface Ethernet0

@@ -1,6 +1,5 @@
 //! Runs of both programs over files in memory.
 
-use crate::stop::Stop;
 use net_io::{MemFiles, MemSink};
 use rollout_core::tool;
 use std::alloc::{AllocError, Global};
@@ -8,6 +7,7 @@ use std::io::Write;
 use std::sync::Wait;
 use std::thread::Threads;
 use steal_pool::OpenGate;
+use test_stop::Stop;
 use view_core::view_run;
 
 /// Which program is run.

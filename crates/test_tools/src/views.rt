@@ -1,11 +1,11 @@
 //! Reports that are shown.
 
 use crate::runs::{Program, ROOM, ran, show_run};
-use crate::stop::Stop;
 use net_io::MemFiles;
 use std::alloc::Global;
 use std::sync::Wait;
 use std::thread::Threads;
+use test_stop::Stop;
 
 const REPORT: &[u8] = b"ingress R1 Ethernet0 rows 2
 dst 10.0.1.5 src * proto 6 dport 81 sport * flags *

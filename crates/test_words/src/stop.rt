@@ -1,3 +1,5 @@
+//! Why the cases end early: no memory, or files that fail.
+
 use std::alloc::{AllocError, AllocFailed};
 use std::io;
 

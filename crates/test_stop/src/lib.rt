@@ -1,10 +1,13 @@
+//! Why the cases of a test program end early: no memory, or no output.
+#![tactic(auto)]
+
 use no_memory::NoMemory;
 use std::alloc::{AllocError, AllocFailed};
 use std::io;
 
 /// Why the cases end early.
 #[derive(Drop)]
-pub(crate) enum Stop {
+pub enum Stop {
     /// There was no memory.
     NoMemory,
     /// A line could not be written.
