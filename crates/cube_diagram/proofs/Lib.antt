@@ -9,7 +9,6 @@ pub mod ReachLemmas
 pub mod ImageLemmas
 pub mod LeastLemmas
 pub mod StampLemmas
-pub mod ExactLemmas
 pub mod RetoldLemmas
 pub mod PathLemmas
 pub mod PairedLemmas
