@@ -40,7 +40,7 @@ path_before k (l ∷ ls) = take (length l - k) l
 abbrev pub Takes : List Task → Task → Type 0
 Takes taken t = (v : View) × (w : View) × (v.taken ≡ taken) × TakesFirst v (t ∷ []) w
 
--- at a moment of the call the lane was empty
+-- some lane under the rule, with a port that has this list, was empty
 abbrev pub Finds : List Task → Type 0
 Finds taken = (v : View) × (v.taken ≡ taken) × WasEmpty v
 

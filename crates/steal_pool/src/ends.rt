@@ -103,8 +103,9 @@ impl Owner {
         }
     }
 
-    /// Takes the task of least place that is still in the lane. `None` comes only where the lane was empty at a moment of
-    /// this call; where the thieves that were joined had all of the lane, the tasks that were pushed are then those taken.
+    /// Takes the task of least place that is still in the lane, and answers `None` where it finds none. Of that the contract says
+    /// only that some lane under the rule was empty, not which; but where the thieves that were joined had all of this lane, the
+    /// tasks that were pushed are then those taken.
     ///
     /// It takes no memory and doesn't wait.
     pub fn take(&mut self) -> Option<Task>
@@ -117,7 +118,7 @@ impl Owner {
 }
 
 impl Thief {
-    // One try to take a task, which may meet a step of another thread.
+    // One try to take a task. It may meet a step of another thread, of which the contract says nothing.
     fn attempt(&mut self) -> Steal<Task>
         ensures lane { self.new.lane ≡ self.old.lane }
         ensures rule { MatchSteal result ((self.new ≡ self.old) × Finds self.old.taken) (self.new ≡ self.old) (λ t. (self.new ≡ record self.old { taken = self.old.taken ++ t ∷ [] }) × Takes self.old.taken t) }
@@ -125,8 +126,8 @@ impl Thief {
         self.stealer.steal_as::<Take>(&mut self.pass)
     }
 
-    /// Takes the task of least place that is still in the lane. `None` comes only where the lane was empty at a moment of
-    /// this call.
+    /// Takes the task of least place that is still in the lane, and answers `None` where it finds none. Of that the contract says
+    /// only that some lane under the rule was empty, not which.
     ///
     /// It takes no memory. Where it meets a step of another thread it tries again, so it may wait for that thread.
     pub fn steal<R: Wait>(&mut self, rt: &R) -> Option<Task>

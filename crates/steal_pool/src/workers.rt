@@ -36,7 +36,7 @@ const CAPACITY_ALONE: usize = 1024;
 // In so many rounds one thief is split into 64.
 const ROUNDS: u32 = 6;
 
-/// Who works: 1 to 64 workers, each of which passes the gate before it works on a region.
+/// Who works: 1 to 64 workers, and the gate that each of them passes before it works on a region.
 #[derive(Drop)]
 pub struct Workers<'a, R, G> {
     /// The runtime that starts their threads.
@@ -232,8 +232,8 @@ fn run_as<
 /// Works all roots down to leaves.
 ///
 /// The leaves are pairwise disjoint, each is inside a root, each has the splitter's value of all its headers, and no
-/// header of a root outside them has a value. A worker passes the gate before it works on a task. What the workers leave
-/// for want of memory, or of room in their lanes, the calling thread works on when they have ended, without the gate.
+/// header of a root outside them has a value. What the workers leave for want of memory, or of room in their lanes, the
+/// calling thread works on when they have ended, without the gate.
 pub fn run<S: Splitter + Send + Sync, G: Gate + Sync, R: Threads + Wait + Sync>(
     by: &Workers<R, G>,
     alloc: Global,
