@@ -1,4 +1,5 @@
-// One cell of a store: what it is known to hold, and how it is set.
+//! One cell of a store: the value it is known to hold, and the offer of a label to it, which it takes where it is empty.
+
 ghost use Rattle.std.specs.Prelude.{◌≡◌, IfOk};
 ghost use Rattle.once_cell.specs.Once.{cell_name};
 

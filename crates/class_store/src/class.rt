@@ -1,3 +1,5 @@
+//! What stands for a label in a store: where its window begins, the cells that were passed, and where the label is.
+
 use crate::known::Known;
 use net_types::Label;
 

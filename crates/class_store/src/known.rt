@@ -1,4 +1,5 @@
-// What shows which value a cell holds, and can be read through a `&`.
+//! The knowledge that a cell holds a value for good. It takes no bytes, and threads may share it.
+
 ghost use Rattle.std.specs.Prelude.{◌≡◌, ℕ, IsSome};
 ghost use Rattle.std.specs.declared.option.Option.TheVariants.{Some};
 ghost use denote.Sharing.{said};

@@ -1,3 +1,5 @@
+//! The store: a fixed number of cells, in whose windows labels are interned as classes, and classes are compared.
+
 ghost use Rattle.std.specs.Prelude.{◌≡◌, ◌≢◌, ◌↔◌, ◌<◌, ◌≤◌, IfOk, IsTrue, Some, length, slice_get};
 ghost use Rattle.once_cell.specs.Once.{cell_name};
 ghost use Rattle.class_store.specs.Windows.{window, window_start};

@@ -1,4 +1,5 @@
-// The access lists of a configuration, with their entries.
+//! Whether access lists are equal: their names, their forms, and their entries one by one.
+
 ghost use Rattle.std.specs.Prelude.{◌≡◌, true};
 
 use crate::lists::same_text;

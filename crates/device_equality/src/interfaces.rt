@@ -1,4 +1,5 @@
-// The interfaces of a configuration.
+//! Whether the interfaces of two configurations are equal: names, addresses, access lists and sides of translation.
+
 ghost use Rattle.std.specs.Prelude.{◌≡◌, true, Some};
 
 use crate::lists::{same_subnet, same_subnets, same_text};

@@ -1,4 +1,5 @@
-// Texts, numbers and rules, and lists of them.
+//! Whether texts, numbers, ports, subnets and rules of translation are equal, and lists of them.
+
 ghost use Rattle.std.specs.Prelude.{◌≡◌, true};
 
 use net_types::{NatRule, Subnet, Text};

@@ -1,4 +1,5 @@
-// Tests of ports.
+//! Whether two tests of ports are equal: the same kind of test, of the same ports.
+
 ghost use Rattle.std.specs.Prelude.{◌≡◌, true};
 ghost use Rattle.net_types.specs.declared.config.PortTest.TheVariants as test;
 

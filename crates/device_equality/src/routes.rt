@@ -1,4 +1,5 @@
-// The static routes of a configuration.
+//! Whether the static routes of two configurations are equal: prefix, exit and distance of each.
+
 ghost use Rattle.std.specs.Prelude.{◌≡◌, true};
 ghost use Rattle.net_types.specs.declared.config.RouteExit.TheVariants as exit;
 

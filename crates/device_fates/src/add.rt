@@ -1,3 +1,5 @@
+//! A device as one function in the table of diagrams: it gives each header the number of the fate of its destination.
+
 ghost use Rattle.std.specs.Prelude.{◌<◌, IfOk};
 ghost use Rattle.hdr_bits.specs.declared.header.Header.{Header};
 ghost use Rattle.hdr_bits.specs.HeaderBits.{number, IsHeader};

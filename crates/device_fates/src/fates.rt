@@ -1,3 +1,5 @@
+//! The table of the fates that were met, each with its number, and the search for a fate by its hash.
+
 ghost use Rattle.std.specs.Prelude.{◌≡◌, [], Some, slice_get, IfOk, IfSome};
 ghost use Rattle.std.specs.Option.{option_copied};
 

@@ -1,3 +1,6 @@
+//! The pieces that a device's function is made of, in order of priority: what is dropped, the own addresses, what is sent on.
+//! The value of each is the number of a fate.
+
 ghost use Rattle.std.specs.Prelude.{◌≡◌, ◌<◌, ◌^◌, ◌/◌, ℕ, Some, None, IfOk, OnOk, if◌then◌else◌};
 ghost use Rattle.std.specs.Option.{option_map, option_or};
 ghost use Rattle.hdr_bits.specs.declared.header.Header.{Header};

@@ -1,3 +1,5 @@
+//! The choices of all destinations, as cubes of headers: disjoint ones, or those of the prefixes in the order in which they are tried.
+
 ghost use Rattle.std.specs.Prelude.{◌≡◌, ◌<◌, ◌≤◌, ◌^◌, ◌/◌, ◌∷◌, [], ℕ, Some, IfOk, All, AllPairs, Any, map, length};
 ghost use Rattle.std.specs.Option.{unwrap_or};
 ghost use Rattle.std.specs.List.Sorted.{IsStrictlySortedBy};
@@ -43,12 +45,12 @@ pub fn compile_rib(alloc: Global, rib: &Rib) -> Result<Vec<(Cube, List<HopForm>)
 }
 
 /// The choices of every destination by its prefixes, in the order in which these are tried: a header has the choices of
-/// the first cube that holds it, and there is one. The cubes fix nothing but destinations; there are as many as prefixes, and
-/// one more, of all headers.
+/// the first cube that holds it, and there is one. The cubes fix nothing but destinations; there are at most as many as
+/// prefixes, and one more, of all headers.
 ///
 /// # Errors
 ///
-/// There was no memory, or there are 2 to the 32 prefixes or more.
+/// There was no memory.
 pub fn prefix_choices(alloc: Global, rib: &Rib) -> Result<Vec<(Cube, List<HopForm>)>, NoMemory>
     ensures exact { IfOk result (λ r. (h : ℕ) → h < 2 ^ 112 → AreChoicesFor rib.now (h / 2 ^ 80) (choices_in r.items h)) }
     ensures sorted { IfOk result (λ r. All (λ p. IsStrictlySortedBy form_cmp p.1) r.items) }

@@ -1,3 +1,5 @@
+//! The cube of the headers whose destinations a prefix holds.
+
 ghost use Rattle.std.specs.Prelude.{◌≡◌, ◌<◌, ◌^◌, ◌/◌, ℕ};
 ghost use Rattle.hdr_bits.specs.CubeBits.{is_in};
 ghost use Rattle.net_types.specs.Routes.{holds};

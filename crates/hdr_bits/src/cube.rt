@@ -1,3 +1,5 @@
+//! Ternary cubes: sets of headers by 112 bits, each 0, 1 or `*`.
+
 ghost use Rattle.std.specs.Prelude.{◌≡◌, ◌<◌, ◌≤◌, ◌^◌, ◌↔◌, ℕ, IsTrue, IsSome, IfSome, bit_and};
 
 use crate::header::{Header, unpack};

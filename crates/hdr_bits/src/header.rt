@@ -1,3 +1,5 @@
+//! Headers: their six fields, and the number of 112 bits that these make.
+
 ghost use Rattle.std.specs.Prelude.{◌≡◌, ◌≢◌, ◌<◌, ◌≤◌, ◌^◌, ◌↔◌, ℕ, IsTrue, IsSome, IfSome};
 ghost use Rattle.hdr_bits.specs.Bits.{bit_of};
 ghost use Rattle.hdr_bits.specs.HeaderBits.{number, header_of};

@@ -1,3 +1,5 @@
+//! Access lists, for one header: the verdict of the first entry that matches, and each test of an entry.
+
 ghost use Rattle.std.specs.Prelude.{◌≡◌, ◌==◌, Some, find};
 ghost use Rattle.std.specs.List.{list_any};
 ghost use Rattle.std.specs.Option.{option_copied};

@@ -1,3 +1,5 @@
+//! Static address translation of one header, from outside and from inside, and the rules that match it.
+
 ghost use Rattle.std.specs.Prelude.{◌≡◌, find};
 ghost use Rattle.std.specs.Option.{option_copied};
 ghost use Rattle.net_types.specs.Translation.{from_outside, from_inside, is_plain, is_port_rule, is_outer};

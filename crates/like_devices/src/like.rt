@@ -1,3 +1,5 @@
+//! The devices that are equal in two networks and send alike in both, by their names.
+
 ghost use Rattle.std.specs.Prelude.{◌≡◌, ◌==◌, ℕ, true, All, Contains, IfOk, find};
 ghost use Rattle.std.specs.Option.{option_copied};
 ghost use Rattle.net_view.specs.Borrowed.{world_of};

@@ -1,3 +1,5 @@
+//! The devices of a world by the numbers of their names, and the interfaces at places.
+
 ghost use Rattle.std.specs.Prelude.{◌≡◌, ◌==◌, ℕ, nat_eq, IfOk, OnOk, Some, None, if◌then◌else◌, option_map, option_and_then, position, slice_get};
 ghost use Rattle.std.specs.Option.{option_copied, option_or};
 ghost use Rattle.indexmap.specs.IndexMap.{get};

@@ -1,3 +1,5 @@
+//! The ends of a lan that have an address: which of them receives a packet, for a whole cube of headers.
+
 ghost use Rattle.std.specs.Prelude.{◌≡◌, ◌<◌, ℕ, Bool, nat_eq, Option, Some, None, IfOk, OnOk, IsTrue, option_map, option_and_then, if◌then◌else◌, ◌==◌};
 ghost use Rattle.std.specs.List.{list_any};
 ghost use Rattle.hdr_bits.specs.declared.header.Header.{Header};

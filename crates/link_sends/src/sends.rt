@@ -1,3 +1,5 @@
+//! What becomes of packets that are sent over a segment, and whether two segments are known to send alike.
+
 ghost use Rattle.std.specs.Prelude.{◌≡◌, ℕ, nat_eq, None, IsTrue};
 ghost use Rattle.std.specs.Option.{option_copied};
 ghost use Rattle.indexmap.specs.IndexMap.{get};

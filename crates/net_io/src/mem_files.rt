@@ -1,4 +1,5 @@
-// Files in memory.
+//! Files and folders in memory, which tell all that they hold. One call may be made to fail, and reads to give few bytes.
+
 ghost use Rattle.std.specs.Prelude.{◌≡◌, ◌↔◌, ◌<◌, ◌≤◌, ◌==◌, Some};
 ghost use Rattle.std.specs.Prelude.{IfOk, OnOk, OnErr, IsOk, IsErrOf, IsTrue, IsSome, IfSome, length, map, find, filter_map, option_map, string_bytes};
 ghost use Rattle.std.specs.List.{list_any};

@@ -1,4 +1,5 @@
-// A sink in memory.
+//! A sink in memory with room for so many bytes, which tells what it took and fails where it is full.
+
 ghost use Rattle.std.specs.Prelude.{◌≡◌, ◌-◌, ◌<◌, ◌≤◌, ◌++◌, [], Some, None, IfOk, OnErr, length, min, take};
 ghost use Rattle.net_io.specs.Faults.{counted};
 ghost use Rattle.net_io.specs.Pieces.{at_most};

@@ -1,4 +1,5 @@
-// Files, and a whole file.
+//! What it is to be files that are read: the trait, with the causes of failure, and the reading of a whole file.
+
 ghost use Rattle.std.specs.Prelude.{◌≡◌, ℕ, ◌<◌, ◌≤◌, Option, Some, Err};
 ghost use Rattle.std.specs.Prelude.{IfOk, IfSome, IsSome, IsNone, IsSomeAnd, IsTrue, length, map, string_bytes};
 ghost use Rattle.net_io.specs.Faults.{Rose, HasCause};

@@ -1,4 +1,5 @@
-// Files of the system.
+//! The files of the system, as files that tell nothing. The file that was read last stays open for its next piece.
+
 ghost use Rattle.std.specs.Prelude.{◌≡◌, ◌≤◌, IfOk, None, length};
 ghost use Rattle.net_io.specs.Faults.{Rose};
 ghost use Rattle.net_io.specs.declared.reading.FileFail.TheVariants as file;

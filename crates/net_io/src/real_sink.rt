@@ -1,4 +1,5 @@
-// Sinks over the system.
+//! A sink over a writer, which counts the writer's errors as faults and doesn't tell what it took.
+
 ghost use Rattle.std.specs.Prelude.{◌≡◌, ◌<◌, ◌≤◌, None, IfOk, length};
 ghost use Rattle.std.specs.Io.KnownBytes.{WriteAppends};
 ghost use Rattle.net_io.specs.Faults.{counted, Counts};

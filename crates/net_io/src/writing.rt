@@ -1,4 +1,5 @@
-// Sinks, and all of a list of bytes.
+//! What it is to be a sink that takes bytes: the trait, with its failure, and the writing of all of a list of bytes.
+
 ghost use Rattle.std.specs.Prelude.{◌≡◌, ℕ, ◌<◌, ◌≤◌, ◌++◌, List, Option, IfOk, OnOk, OnErr, length, take, option_map};
 ghost use Rattle.net_io.specs.Faults.{Counts};
 ghost use Rattle.net_io.specs.Sink.{TookPrefix};

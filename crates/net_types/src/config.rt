@@ -1,3 +1,5 @@
+//! What a router's configuration says: its interfaces, static routes, access lists and rules of address translation.
+
 ghost use Rattle.std.specs.Prelude.{◌≤◌};
 
 use crate::{List, Text};

@@ -1,3 +1,5 @@
+//! Copies of values in memory of their own, each equal to what was copied.
+
 ghost use Rattle.std.specs.Prelude.{◌≡◌, IfOk};
 
 use crate::{

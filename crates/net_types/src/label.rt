@@ -1,3 +1,5 @@
+//! How walks of packets end: an outcome, and the label of a header, which is all of its outcomes in order.
+
 ghost use Rattle.std.specs.Prelude.{◌≡◌, ◌≢◌, ◌↔◌, [], IfOk, IsTrue};
 ghost use Rattle.net_types.specs.Order.{in_order, outcome_cmp, IsLabel};
 

@@ -1,3 +1,5 @@
+//! A list of values, which the definitions take as its items.
+
 ghost use Rattle.std.specs.Prelude.{◌≡◌, [], ◌∷◌, ◌++◌, IfOk, OnErr, OnOk};
 
 use crate::{Duplicate, NoMemory};

@@ -1,3 +1,5 @@
+//! A network of devices and their links, what a device does with a packet that arrives, and the rows in which two networks differ.
+
 ghost use Rattle.std.specs.Prelude.{◌≡◌, length};
 
 use crate::{Config, Label, List, Route, Text};

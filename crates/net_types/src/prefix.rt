@@ -1,3 +1,5 @@
+//! The first bits of an address, by which prefixes are compared.
+
 ghost use Rattle.std.specs.Prelude.{◌≡◌};
 ghost use Rattle.net_types.specs.Routes.{prefix_number};
 

@@ -1,3 +1,5 @@
+//! Questions on the headers that enter a network at a place, and the answers to them.
+
 use crate::Place;
 use hdr_bits::{Cube, Header};
 

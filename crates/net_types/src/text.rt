@@ -1,3 +1,5 @@
+//! Names and words of files, which the definitions take as their bytes.
+
 ghost use Rattle.std.specs.Prelude.{◌≡◌, ◌↔◌, IfOk, IsTrue};
 
 use crate::{Duplicate, NoMemory};

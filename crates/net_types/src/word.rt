@@ -1,3 +1,5 @@
+//! Words of the command line, which the definitions take as their bytes.
+
 ghost use Rattle.std.specs.Prelude.{◌≡◌, string_bytes};
 
 use std::marker::Model;

@@ -1,3 +1,5 @@
+//! A network with its links, and what is looked up there first: a device by position or name, an access list by name.
+
 ghost use Rattle.std.specs.Prelude.{◌≡◌, ◌==◌, find, slice_get};
 ghost use Rattle.std.specs.Option.{option_copied};
 ghost use Rattle.net_types.specs.Moves.{list_named};

@@ -1,3 +1,5 @@
+//! Questions about interfaces: whether one is IP-enabled, has an address or is on a side of translation, and which has a name.
+
 ghost use Rattle.std.specs.Prelude.{◌≡◌, ◌&&◌, ◌==◌, ◌<◌, find, length};
 ghost use Rattle.std.specs.Option.{option_copied};
 ghost use Rattle.std.specs.List.{list_any};

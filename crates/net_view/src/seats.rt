@@ -1,3 +1,5 @@
+//! Seats: an interface with its device and its place, found by place, number, name or position.
+
 ghost use Rattle.std.specs.Prelude.{◌≡◌, ◌==◌, position, option_map};
 ghost use Rattle.net_types.specs.Routes.{same_text};
 ghost use Rattle.net_types.specs.World.{seat_in, seat_at, seat_numbered, seat_named};

@@ -1,3 +1,6 @@
+//! The graph of a region: all walks of the headers of a cube, and what it answers of them. These are their label, where they
+//! end, whether they loop and which devices they visit.
+
 use crate::devices::is_met;
 use crate::level::{Level, states_at};
 use crate::outcomes::{all_outcomes, some_is_at};

@@ -1,3 +1,5 @@
+//! A region, explored: the graph of all its headers where they walk alike, else its two halves.
+
 ghost use Rattle.std.specs.Prelude.{IfOk};
 ghost use Rattle.cube_alg.specs.OnCubes.{IsOpen};
 ghost use Rattle.region_walk.specs.Region.{AreHalves};

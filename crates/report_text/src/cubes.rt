@@ -1,3 +1,5 @@
+//! Cubes and headers as text: the six fields, each behind its name.
+
 ghost use Rattle.std.specs.Prelude.{◌≡◌, ◌++◌, IfOk, OnOk};
 ghost use Rattle.report_text.specs.FieldText.{cube_text, fields_text, header_text};
 

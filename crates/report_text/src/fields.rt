@@ -1,3 +1,5 @@
+//! Numbers, addresses and the fields of a cube as text: `*`, a number, an address or a prefix, or a digit for each bit.
+
 ghost use Rattle.std.specs.Prelude.{◌≡◌, ◌-◌, ◌^◌, ◌≤◌, ◌<◌, [], ◌∷◌, ◌++◌, decimal, IfOk, OnOk};
 ghost use Rattle.report_text.specs.FieldText.{address_text, ternary_text, prefix_length, address_field_text, number_field_text, digit_text, partial_text};
 ghost use Rattle.std.specs.Int.{bit_at};

@@ -1,3 +1,5 @@
+//! What was read of each configuration, as a line: the file, the hostname, and how many things there are of each kind.
+
 ghost use Rattle.std.specs.Prelude.{◌≡◌, ◌++◌, IfOk, OnOk};
 ghost use Rattle.report_text.specs.Readings.{entry_count, host_text, interfaces_text, routes_text, lists_text, rules_text, counts_text, reading_text, readings_text};
 

@@ -1,3 +1,5 @@
+//! Outcomes, labels, rows and sections as text, a whole report, and the extent of a comparison.
+
 ghost use Rattle.std.specs.Prelude.{◌≡◌, ◌++◌, decimal, flat_map, IfOk, OnOk};
 ghost use Rattle.report_text.specs.FieldText.{address_text};
 ghost use Rattle.report_text.specs.ReportText.{name_text, place_text, change_text, outcome_text, label_text, row_text, section_text, row_count, affected_text, report_text, summary_text};

@@ -1,3 +1,6 @@
+//! What the interfaces say about routes: which addresses are the router's own, and which names are those of enabled ones.
+//! From these it is told whether a route is usable at all, and whether it is valid without another route.
+
 ghost use Rattle.std.specs.Prelude.{◌≡◌, ◌||◌, ℕ, List, IfOk, OnOk, nat_eq, if◌then◌else◌};
 ghost use Rattle.std.specs.Option.{option_or};
 ghost use Rattle.std.specs.HashSet.{contains};

@@ -1,3 +1,5 @@
+//! The valid routes of a list, found prefix by prefix from those that are valid without another route.
+
 ghost use Rattle.std.specs.Prelude.{◌≡◌, List, IfOk};
 ghost use Rattle.net_types.specs.declared.config.Route.{Route};
 ghost use Rattle.net_types.specs.Routes.{leads_into};

@@ -1,6 +1,6 @@
 //! Small networks: what devices do with headers, the labels of headers and the regions round them, where headers end and whether
-//! they loop, what is alike in two networks, and which devices headers visit. What each case must give follows from the rules, and stands in the file `stdout`
-//! beside this folder.
+//! they loop, what is alike in two networks, and which devices headers visit. What each case must give follows from the rules, and
+//! stands in the file `stdout` beside this folder.
 #![tactic(auto)]
 
 mod alike;

@@ -1,3 +1,5 @@
+//! Link tables as values: their lines with the ends, and why a table is refused.
+
 ghost use Rattle.std.specs.Prelude.{◌≡◌};
 ghost use Rattle.topo_links.specs.Refusals.{refusal_text};
 
