@@ -10,12 +10,12 @@ use Rattle.incr_review.specs.declared.edits.EditKind.TheVariants.{UnknownDevice}
 use Rattle.incr_review.specs.Edited.{map_ok, change_first, is_named, device_of, device_edited, edited, with_rules, rules_edited}
 
 -- what was made of a value
-record Made {X Y : Type 0} (f : X → Y) (r : Result X EditKind) (y : Y) : Type 0 where
-  value : X
-  is : r ≡ Ok value
-  gives : f value ≡ y
+pub record Made {X Y : Type 0} (f : X → Y) (r : Result X EditKind) (y : Y) : Type 0 where
+  pub value : X
+  pub is : r ≡ Ok value
+  pub gives : f value ≡ y
 
-made : {X Y : Type 0} (f : X → Y) (r : Result X EditKind) (y : Y) → map_ok f r ≡ Ok y → Made f r y
+pub made : {X Y : Type 0} (f : X → Y) (r : Result X EditKind) (y : Y) → map_ok f r ≡ Ok y → Made f r y
 made f (Ok x) y e = record { value = x; is = refl; gives = cc }
 made f (Err k) y e = absurd cc
 
@@ -39,7 +39,7 @@ each_edited d k change good (x ∷ xs) ys e = by (each_edited d k change good xs
         let m = made (λ zs. x ∷ zs) (change_first (is_named d) k change xs) ys q in
         subst (AreEdited d (x ∷ xs)) m.gives (stays d x, rest m.value m.is)
 
-device_is_edited : (e : Edit) (x y : NetDevice) → x.name ≡ device_of e → device_edited e x ≡ Ok y → IsEdited (device_of e) x y
+pub device_is_edited : (e : Edit) (x y : NetDevice) → x.name ≡ device_of e → device_edited e x ≡ Ok y → IsEdited (device_of e) x y
 device_is_edited e x y named q =
     let m = made (with_rules x) (rules_edited e x.config) y q in
     subst (IsEdited (device_of e) x) m.gives (record { name = refl; other = λ n. absurd (n named); numbers = refl; interfaces = refl })

@@ -245,6 +245,14 @@ leaving_once f d rs n o s h v =
     let part : count_by (in_region f s h) (take n rs) ≤ count_by (in_region f s h) rs = t in
     omega (arith, whole, part, l)
 
+pub filtered_once : (f g : Functions) (d : ℕ) (rs : List Region) → Keeps f g → ((r : Region) → Contains rs r → r.headers < count_of f) → IsDisjoint f rs → (s : ℕ) (h : Header) → IsHeader h → count_by (in_region g s h) (filter (leaves d) rs) ≤ 1
+filtered_once f g d rs k b o s h v =
+    let w = sum_by-filter_both (stays d) (leaves d) (λ x. refl) (λ r. cond (in_region g s h r) 1 0) rs in
+    let l = o s h v in
+    let same = region_counts_kept f g s h k rs b in
+    let whole : count_by (in_region g s h) (filter (stays d) rs) + count_by (in_region g s h) (filter (leaves d) rs) ≡ count_by (in_region g s h) rs = w in
+    omega (arith, whole, same, l)
+
 pub reviewed_disjoint : (old new : World) (t : ℕ) (ingress : List Place) (f : Functions) (rs : List Region) → AreReviewed old new t ingress f rs → IsDisjoint f rs
 reviewed_disjoint old new t ingress f rs a s h v = elim (cases_lt s (length ingress)) [
   | inl l ↦ (let o = a.one s h l v in omega (arith, o))

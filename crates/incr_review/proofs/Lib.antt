@@ -10,3 +10,8 @@ pub mod GroupLemmas
 pub mod ReviewLemmas
 pub mod SectionLemmas
 pub mod CountLemmas
+pub mod AlikeLemmas
+pub mod LiveLemmas
+pub mod ChangedLemmas
+pub mod SplitLemmas
+pub mod KeptLemmas

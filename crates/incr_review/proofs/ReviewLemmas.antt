@@ -1,38 +1,31 @@
 -- Reviews: as they are opened, and after an edit.
-use Rattle.std.proofs.Common.{ℕ, ◌≡◌, ◌<◌, ◌≤◌, ◌==◌, ◌⊎◌, inl, inr, Bool, true, false, not, cond, List, [], ◌∷◌, ◌++◌, Option, Some, None, IsSome, Ok, length, slice_get, ◌+◌, refl, ap, sym, ◌∙◌, subst, eq-eqb, arith}
+use Rattle.std.proofs.Common.{ℕ, ◌≡◌, ◌<◌, ◌≤◌, ◌==◌, ◌⊎◌, inl, inr, true, false, not, cond, List, [], ◌++◌, Option, Some, None, IsSome, length, slice_get, ◌+◌, refl, ap, sym, ◌∙◌, subst, eq-eqb, arith}
 use Rattle.std.specs.Prelude.{Contains, count_by, filter}
 use Rattle.std.proofs.lemmas.Bool.{cases_Bool}
 use Rattle.std.proofs.lemmas.Bool.Decides.{nat_tests}
-use Rattle.std.proofs.lemmas.List.{append-nil}
 use Rattle.std.proofs.lemmas.List.Elements.{Contains-append_cases}
-use Rattle.std.proofs.lemmas.List.Sums.{count_by-le-length}
 use Rattle.std.proofs.lemmas.List.Filters.{sum_by-filter_both}
 use Rattle.hdr_bits.specs.declared.header.Header.{Header}
 use Rattle.hdr_bits.specs.HeaderBits.{number, IsHeader}
 use Rattle.cube_diagram.specs.Functions.{Functions, Keeps, count_of, value_at}
-use Rattle.net_types.specs.declared.network.Network.{Network}
 use Rattle.net_types.specs.declared.network.Place.{Place}
 use Rattle.net_types.specs.World.{World}
 use Rattle.net_types.specs.Edits.{DiffersOnlyAt}
 use Rattle.net_types.specs.Visits as visiting
 use Rattle.net_types.proofs.Members.{in_none, in_filter, to_any}
-use Rattle.net_types.proofs.OneEdit.{edited_differs}
 use Rattle.net_types.proofs.SameWalks.{labels_alike, visits_alike}
 use Rattle.net_types.proofs.Unvisited.{unvisited_walks}
 use Rattle.set_walk.specs.Sets.{InSet}
 use Rattle.set_walk.proofs.SetLemmas.{kept_set, kept_below}
-use Rattle.incr_review.specs.declared.edits.Edit.{Edit}
 use Rattle.incr_review.specs.declared.regions.Region.{Region}
-use Rattle.incr_review.specs.Edited.{device_of, edited}
-use Rattle.incr_review.specs.Reviews.{ReviewState, IsReview, edited_world}
+use Rattle.incr_review.specs.Reviews.{ReviewState, IsReview}
 use Rattle.incr_review.specs.Parts.{ones}
-use Rattle.incr_review.specs.Regions.{stays, in_region, IsRight, AreReviewed, StartsWith}
-use Rattle.incr_review.specs.Again.{leaves, ArePlaced, AreRegionsOf, AreAgain, AddsAgain}
+use Rattle.incr_review.specs.Regions.{stays, in_region, IsRight, AreReviewed}
+use Rattle.incr_review.specs.Again.{leaves, ArePlaced, AreRegionsOf, AreAgain}
 use Rattle.incr_review.specs.Opened.{AreOpened}
 use Rattle.incr_review.proofs.ListLemmas.{get_cases, from_get}
-use Rattle.incr_review.proofs.EditLemmas.{edited_there}
 use Rattle.incr_review.proofs.PartLemmas.{filled_kept}
-use Rattle.incr_review.proofs.RegionLemmas.{split_count, region_counts_kept, again_nothing}
+use Rattle.incr_review.proofs.RegionLemmas.{split_count, region_counts_kept}
 
 -- ---- opened
 pub nothing_opened : (w : World) (t : ℕ) (ingress : List Place) (f : Functions) → AreOpened w t ingress f 0 []
@@ -174,78 +167,17 @@ module _ (old w0 w1 : World) (t : ℕ) (ingress : List Place) (f g : Functions) 
             split_count (in_region g s h) (filter (stays d) rs) more ∙ ((λ i. a i + b i) ∙ (whole ∙ before.one s h l v));
       }
 
--- ---- where no region leaves
-all_pass : {X : Type 0} (p : X → Bool) (xs : List X) → count_by p xs ≡ length xs → filter p xs ≡ xs
-all_pass p [] e = refl
-all_pass p (x ∷ xs) e = by (all_pass p xs) (p x) refl
-  where
-    by : (count_by p xs ≡ length xs → filter p xs ≡ xs) → (b : Bool) → p x ≡ b → cond b (x ∷ filter p xs) (filter p xs) ≡ x ∷ xs
-    by rest true t =
-        let s = split_count p (x ∷ []) xs in
-        let n : count_by p (x ∷ []) ≡ 1 = ap (λ b. 0 + cond b 1 0) t in
-        ap (λ ys. x ∷ ys) (rest (omega (arith, s, n, e)))
-    by rest false t =
-        let s = split_count p (x ∷ []) xs in
-        let n : count_by p (x ∷ []) ≡ 0 = ap (λ b. 0 + cond b 1 0) t in
-        let m = count_by-le-length p xs in
-        absurd (omega (arith, s, n, e, m))
-
-none_pass : {X : Type 0} (p : X → Bool) (xs : List X) → count_by p xs ≡ length xs → filter (λ x. not (p x)) xs ≡ []
-none_pass p [] e = refl
-none_pass p (x ∷ xs) e = by (none_pass p xs) (p x) refl
-  where
-    by : (count_by p xs ≡ length xs → filter (λ y. not (p y)) xs ≡ []) → (b : Bool) → p x ≡ b → cond (not b) (x ∷ filter (λ y. not (p y)) xs) (filter (λ y. not (p y)) xs) ≡ []
-    by rest true t =
-        let s = split_count p (x ∷ []) xs in
-        let n : count_by p (x ∷ []) ≡ 1 = ap (λ b. 0 + cond b 1 0) t in
-        rest (omega (arith, s, n, e))
-    by rest false t =
-        let s = split_count p (x ∷ []) xs in
-        let n : count_by p (x ∷ []) ≡ 0 = ap (λ b. 0 + cond b 1 0) t in
-        let m = count_by-le-length p xs in
-        absurd (omega (arith, s, n, e, m))
-
-pub same_table : (f : Functions) → Keeps f f
-same_table f = record { count = omega arith; value = λ i l h. refl }
-
-pub all_stay : (d : ℕ) (rs : List Region) → count_by (stays d) rs ≡ length rs → filter (stays d) rs ≡ rs
-all_stay d rs e = all_pass (stays d) rs e
-
-pub reviewed_same : (old w0 w1 : World) (t : ℕ) (ingress : List Place) (f : Functions) (d : ℕ) (rs : List Region) → DiffersOnlyAt w0 w1 d → count_by (stays d) rs ≡ length rs → AreReviewed old w0 t ingress f rs → AreReviewed old w1 t ingress f rs
-reviewed_same old w0 w1 t ingress f d rs differs e before =
-    let none = subst (λ (bs : List Region). AreAgain w1 t ingress f bs f []) (sym (none_pass (stays d) rs e)) (again_nothing w1 t ingress f f) in
-    let after = reviewed_after old w0 w1 t ingress f f d rs [] differs (same_table f) before none in
-    subst (AreReviewed old w1 t ingress f) (append-nil (filter (stays d) rs) ∙ all_stay d rs e) after
-
--- ---- a review after an edit
-edit_differs : (r : ReviewState) (e : Edit) (network : Network) → edited e r.edited ≡ Ok network → DiffersOnlyAt (edited_world r) (record { network = network; links = r.baseline.links }) (device_of e)
-edit_differs r e network q = edited_differs (edited_world r) (record { network = network; links = r.baseline.links }) (device_of e) refl (edited_there e r.edited network q)
-
-pub all_kept : (d kept walked : ℕ) (rs : List Region) → kept ≡ count_by (stays d) rs → kept + walked ≡ length rs → walked ≡ 0 → count_by (stays d) rs ≡ length rs
-all_kept d kept walked rs a b z = omega (arith, a, b, z)
-
-pub edit_same : (r : ReviewState) (e : Edit) (network : Network) (dev kept walked : ℕ) (rs : List Region) → IsReview r → edited e r.edited ≡ Ok network → dev ≡ device_of e → rs ≡ r.regions → kept ≡ count_by (stays dev) rs → kept + walked ≡ length rs → walked ≡ 0 → IsReview (record { baseline = r.baseline; edited = network; ttl = r.ttl; table = r.table; regions = r.regions })
-edit_same r e network dev kept walked rs a q n s k b z =
-    let counts : count_by (stays (device_of e)) r.regions ≡ length r.regions = subst (λ m. count_by (stays m) r.regions ≡ length r.regions) n (subst (λ (xs : List Region). count_by (stays dev) xs ≡ length xs) s (all_kept dev kept walked rs k b z)) in
+-- ---- as the table grows
+pub reviewed_kept : (old new : World) (t : ℕ) (ingress : List Place) (f g : Functions) (rs : List Region) → Keeps f g → AreReviewed old new t ingress f rs → AreReviewed old new t ingress g rs
+reviewed_kept old new t ingress f g rs k a =
     record {
-      least = a.least;
-      reviewed = reviewed_same r.baseline (edited_world r) (record { network = network; links = r.baseline.links }) r.ttl r.baseline.links.ingress r.table (device_of e) r.regions (edit_differs r e network q) counts a.reviewed;
-    }
-
-pub first_same : (r : ReviewState) (e : Edit) (dev kept walked : ℕ) (rs : List Region) → dev ≡ device_of e → rs ≡ r.regions → kept ≡ count_by (stays dev) rs → kept + walked ≡ length rs → walked ≡ 0 → StartsWith (filter (stays (device_of e)) r.regions) r.regions
-first_same r e dev kept walked rs n s k b z =
-    let counts : count_by (stays (device_of e)) r.regions ≡ length r.regions = subst (λ m. count_by (stays m) r.regions ≡ length r.regions) n (subst (λ (xs : List Region). count_by (stays dev) xs ≡ length xs) s (all_kept dev kept walked rs k b z)) in
-    record { rest = []; are = sym (append-nil (filter (stays (device_of e)) r.regions) ∙ all_stay (device_of e) r.regions counts) }
-
-pub edit_walked : (r : ReviewState) (e : Edit) (network : Network) (dev : ℕ) (g : Functions) (rs news : List Region) → IsReview r → edited e r.edited ≡ Ok network → dev ≡ device_of e → rs ≡ r.regions → Keeps r.table g → AddsAgain (record { network = network; links = r.baseline.links }) r.ttl r.baseline.links.ingress r.table (filter (leaves dev) rs) g (filter (stays dev) rs) news → IsReview (record { baseline = r.baseline; edited = network; ttl = r.ttl; table = g; regions = news })
-edit_walked r e network dev g rs news a q n s k x =
-    let w : World = record { network = network; links = r.baseline.links } in
-    let y = subst (λ m. AddsAgain w r.ttl r.baseline.links.ingress r.table (filter (leaves m) r.regions) g (filter (stays m) r.regions) news) n
-    (subst (λ (xs : List Region). AddsAgain w r.ttl r.baseline.links.ingress r.table (filter (leaves dev) xs) g (filter (stays dev) xs) news) s x) in
-    record {
-      least = a.least;
-      reviewed = subst (AreReviewed r.baseline w r.ttl r.baseline.links.ingress g) (sym y.added)
-          (reviewed_after r.baseline (edited_world r) w r.ttl r.baseline.links.ingress r.table g (device_of e) r.regions y.more (edit_differs r e network q) k a.reviewed y.are);
+      right = record {
+        below = λ r c. kept_below f g r.headers k (a.right.below r c);
+        placed = a.right.placed;
+        some = λ r c. filled_kept f g r.headers k (a.right.below r c) (a.right.some r c);
+        right = λ r p h c at v i. a.right.right r p h c at v ((kept_set f g r.headers h k (a.right.below r c)).0 i);
+      };
+      one = λ s h l v. region_counts_kept f g s h k rs a.right.below ∙ a.one s h l v;
     }
 
 pub regions_placed : (r : ReviewState) → IsReview r → ArePlaced r.baseline.links.ingress r.table r.regions

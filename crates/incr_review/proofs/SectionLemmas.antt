@@ -4,7 +4,8 @@ use Rattle.std.specs.Prelude.{Contains, count_by}
 use Rattle.std.specs.Option.{option_or}
 use Rattle.std.specs.List.{AllZip}
 use Rattle.std.proofs.lemmas.Bool.Decides.{nat_tests}
-use Rattle.std.proofs.lemmas.List.{take_more}
+use Rattle.std.proofs.lemmas.List.{map-append, take_more}
+use denote.Ref.{Bor}
 use Rattle.std.proofs.lemmas.List.Elements.{Contains-append_cases, Contains-append_left, Contains-append_right}
 use Rattle.hdr_bits.specs.HeaderBits.{number, header_of}
 use Rattle.hdr_bits.specs.Lists.{Extends}
@@ -18,7 +19,7 @@ use Rattle.net_types.specs.declared.network.Section.{Section}
 use Rattle.net_types.specs.World.{World}
 use Rattle.net_types.specs.Report.{affected, labels_if_other, IsSection}
 use Rattle.net_types.proofs.LabelLaws.{none_if_same, pair_if_other}
-use Rattle.net_types.proofs.Members.{here, there, in_one}
+use Rattle.net_types.proofs.Members.{here, there, in_one, to_map}
 use Rattle.pair_rows.specs.declared.function.PairFunction.{PairFunction}
 use Rattle.pair_rows.specs.Pairs.{Pair, IsNumberOf, AreRowsWithPairs}
 use Rattle.pair_rows.specs.Functions.{IsFunctionOf}
@@ -26,7 +27,7 @@ use Rattle.set_walk.specs.Sets.{InSet}
 use Rattle.incr_review.specs.declared.regions.Region.{Region}
 use Rattle.incr_review.specs.Parts.{has_header}
 use Rattle.incr_review.specs.Regions.{in_region, AreReviewed}
-use Rattle.incr_review.specs.Sections.{pair_of, HasPair, ArePairsOf, IsNumbered, NumbersPair, AddsPair}
+use Rattle.incr_review.specs.Sections.{pair_of, regions_at, AreDiffering, HasPair, ArePairsOf, IsNumbered, NumbersPair, AddsPair}
 use Rattle.incr_review.proofs.RegionLemmas.{split_count}
 use Rattle.incr_review.proofs.ListLemmas.{zip_more}
 
@@ -118,6 +119,44 @@ module _ (fs : Functions) (slot : ℕ) (rs : List Region) (q : Region) (old new 
   pub pairs_more : q.slot ≡ slot → AddsPair fs q old new → ArePairsOf fs slot (rs ++ q ∷ []) new
   pairs_more at (inl a) = same_labels a.0 a.1
   pairs_more at (inr a) = other_labels at a.0 a.1
+
+-- ---- the regions whose labels differ
+pub differing_more : (rs ds : List Region) (q : Region) → AreDiffering rs ds → AreDiffering (rs ++ q ∷ []) (ds ++ q ∷ [])
+differing_more rs ds q a =
+    record {
+      from = λ r c. elim (Contains-append_cases ds (q ∷ []) r c) [ inl d ↦ Contains-append_left rs (q ∷ []) r (a.from r d) | inr d ↦ Contains-append_right rs (q ∷ []) r d ];
+      rest = λ r c. elim (Contains-append_cases rs (q ∷ []) r c) [
+        | inl d ↦ elim (a.rest r d) [ inl e ↦ inl (Contains-append_left ds (q ∷ []) r e) | inr e ↦ inr e ]
+        | inr d ↦ inl (Contains-append_right ds (q ∷ []) r d)
+      ];
+    }
+
+pub differing_same : (rs ds : List Region) (q : Region) → q.old ≡ q.new → AreDiffering rs ds → AreDiffering (rs ++ q ∷ []) ds
+differing_same rs ds q e a =
+    record {
+      from = λ r c. Contains-append_left rs (q ∷ []) r (a.from r c);
+      rest = λ r c. elim (Contains-append_cases rs (q ∷ []) r c) [
+        | inl d ↦ a.rest r d
+        | inr d ↦ inr (subst (λ (x : Region). x.old ≡ x.new) (in_one q r d) e)
+      ];
+    }
+
+-- the others tell nothing
+pub pairs_whole : (fs : Functions) (slot : ℕ) (rs ds : List Region) (given : PairFunction) → AreDiffering rs ds → ArePairsOf fs slot ds given → ArePairsOf fs slot rs given
+pairs_whole fs slot rs ds given a p =
+    record {
+      number = λ h n l v. (let o = p.number h n l v in (has_more fs slot ds rs h _ _ a.from refl o.0, o.1));
+      none = λ h r l v c s i. elim (a.rest r c) [ inl d ↦ p.none h r l v d s i | inr e ↦ none_if_same r.old r.new e ];
+      distinct = p.distinct;
+    }
+
+pub pointed_at : (rs : List (Bor Region)) (r : Bor Region) → Contains rs r → Contains (regions_at rs) r.now
+pointed_at rs r c = to_map (λ (x : Bor Region). x.now) rs r c
+
+-- one pointer more
+pub pointed_more : (rs : List (Bor Region)) (i : ℕ) (r : Bor Region) → i < length rs → r ≡ get_or rs i r → regions_at (take (i + 1) rs) ≡ regions_at (take i rs) ++ r.now ∷ []
+pointed_more rs i r l e =
+    ap regions_at (take_more rs i r l ∙ ap (λ z. take i rs ++ z ∷ []) (sym e)) ∙ map-append (λ (x : Bor Region). x.now) (take i rs) (r ∷ [])
 
 pub taken_more : (rs : List Region) (i : ℕ) (r : Region) → i < length rs → r ≡ get_or rs i r → take (i + 1) rs ≡ take i rs ++ r ∷ []
 taken_more rs i r l e = take_more rs i r l ∙ ap (λ z. take i rs ++ z ∷ []) (sym e)

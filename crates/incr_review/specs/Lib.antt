@@ -11,3 +11,7 @@ pub mod Groups
 pub mod Opened
 pub mod Reviews
 pub mod Sections
+pub mod Live
+pub mod Changed
+pub mod Split
+pub mod Walking

@@ -8,6 +8,8 @@ use Rattle.net_types.specs.declared.network.Section.{Section}
 use Rattle.net_types.specs.World.{World}
 use Rattle.net_types.specs.Report.{IsReport}
 use Rattle.incr_review.specs.declared.regions.Region.{Region}
+use Rattle.incr_review.specs.declared.live.LiveNetwork.{LiveNetwork}
+use Rattle.incr_review.specs.Live.{IsLive}
 use Rattle.incr_review.specs.Regions.{AreReviewed}
 
 -- the old network with the links, the edited network, the TTL, and the regions, whose sets are functions of the table
@@ -42,3 +44,8 @@ pub record HasRows (r : ReviewState) (count : ℕ) : Type 0 where
   pub sections : List Section
   pub report : IsReport r.baseline.links.ingress r.baseline (edited_world r) r.ttl sections
   pub count_is : count ≡ row_total sections
+
+-- all that is kept: the review, and the edited network as it is walked
+pub record IsKept (baseline : World) (edited : Network) (t : ℕ) (live : LiveNetwork) (regions : List Region) : Type 0 where
+  pub review : IsReview (record { baseline = baseline; edited = edited; ttl = t; table = live.tables.diagrams; regions = regions })
+  pub live_is : IsLive baseline (record { network = edited; links = baseline.links }) live

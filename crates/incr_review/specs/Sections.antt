@@ -1,6 +1,7 @@
 -- From regions to the pairs of labels of headers.
-use Rattle.std.specs.Prelude.{ℕ, ◌≡◌, ◌<◌, ◌^◌, ◌⊎◌, List, Option, Some, None, IsSome, Contains, slice_get}
+use Rattle.std.specs.Prelude.{ℕ, ◌≡◌, ◌<◌, ◌^◌, ◌⊎◌, List, Option, Some, None, IsSome, Contains, map, slice_get}
 use Rattle.std.specs.Option.{option_or}
+use denote.Ref.{Bor}
 use Rattle.hdr_bits.specs.Lists.{Extends}
 use Rattle.cube_diagram.specs.Combined.{if_both}
 use Rattle.cube_diagram.specs.Functions.{Functions, count_of, value_at}
@@ -11,6 +12,15 @@ use Rattle.incr_review.specs.declared.regions.Region.{Region}
 
 abbrev pub AreBelow : Functions → List Region → Type 0
 AreBelow fs regions = (r : Region) → Contains regions r → r.headers < count_of fs
+
+-- the regions that are pointed to
+abbrev pub regions_at : List (Bor Region) → List Region
+regions_at rs = map (λ r. r.now) rs
+
+-- these are some of the regions, and the two labels of any other one are equal
+pub record AreDiffering (regions differing : List Region) : Type 0 where
+  pub from : (r : Region) → Contains differing r → Contains regions r
+  pub rest : (r : Region) → Contains regions r → Contains differing r ⊎ (r.old ≡ r.new)
 
 -- the two labels of the region, where they differ
 abbrev pub pair_of : Region → Option Pair

@@ -1,6 +1,7 @@
 //! The device that an edit changes, as it is after it.
 
-ghost use Rattle.std.specs.Prelude.{◌≡◌, ◌<◌, position, length, slice_set, IfOk, IfErr};
+ghost use Rattle.std.specs.Prelude.{◌≡◌, ◌<◌, position, length, slice_get, slice_set, IfOk, IfErr, Some};
+ghost use Rattle.net_types.specs.declared.network.NetDevice.{NetDevice};
 ghost use Rattle.incr_review.specs.Edited.{IsFailOf, device_of, device_edited, edited, is_named};
 
 use crate::edits::{Edit, EditFail, EditKind};
@@ -27,6 +28,8 @@ pub fn edited_device(
     edit: &Edit,
 ) -> Result<EditedDevice, EditFail>
     ensures within { IfOk result (λ r. r.position < length network.now.devices) }
+    ensures first { IfOk result (λ r. position (is_named (device_of edit.now)) network.now.devices ≡ Some r.position) }
+    ensures device { IfOk result (λ r. (x : NetDevice) → slice_get network.now.devices r.position ≡ Some x → device_edited edit.now x ≡ Ok r.device) }
     ensures ok { IfOk result (λ r. edited edit.now network.now ≡ Ok (record { devices = slice_set network.now.devices r.position r.device })) }
     ensures fail { IfErr result (IsFailOf (edited edit.now network.now)) }
 {
@@ -40,32 +43,25 @@ pub fn edited_device(
     Ok(EditedDevice { position, device })
 }
 
-/// The network after the edit, refused as above.
-pub(crate) fn edited_network(
+/// Puts the device at its position, and answers the one that was there.
+pub(crate) fn swap_device(
     alloc: Global,
-    network: &Network,
-    edit: &Edit,
-) -> Result<Network, EditFail>
-    ensures ok { IfOk result (λ r. edited edit.now network.now ≡ Ok r) }
-    ensures fail { IfErr result (IsFailOf (edited edit.now network.now)) }
-{
-    let changed = edited_device(alloc, network, edit)?;
-    let mut devices = network.devices.copy_items(alloc)?.into_vec();
-    devices[changed.position] = changed.device;
-    Ok(Network {
-        devices: List::new(devices),
-    })
-}
-
-/// Puts the device at its position, in place of the one that is there.
-pub(crate) fn put_device(alloc: Global, network: &mut Network, changed: EditedDevice)
+    network: &mut Network,
+    changed: EditedDevice,
+) -> EditedDevice
     requires { changed.position < length network.old.devices }
-    ensures { network.new ≡ record { devices = slice_set network.old.devices changed.position changed.device } }
+    ensures network { network.new ≡ record { devices = slice_set network.old.devices changed.position changed.device } }
+    ensures position { result.position ≡ changed.position }
+    ensures device { slice_get network.old.devices changed.position ≡ Some result.device }
 {
     let EditedDevice { position, device } = changed;
     let mut devices = mem::replace(&mut network.devices, List::empty(alloc)).into_vec();
-    devices[position] = device;
+    let before = mem::replace(&mut devices[position], device);
     network.devices = List::new(devices);
+    EditedDevice {
+        position,
+        device: before,
+    }
 }
 
 fn device_position(devices: &[NetDevice], number: u32) -> Option<usize>

@@ -7,12 +7,14 @@
 //! a review is in `Reviews`; that an edit changes its device alone is a law of [`laws`].
 #![tactic(auto)]
 
+mod changed;
 mod edited;
 mod edits;
 mod entries;
 mod facts;
 mod groups;
 pub mod laws;
+mod live;
 mod numbers;
 mod parts;
 mod regions;
@@ -22,6 +24,7 @@ mod rules;
 mod same;
 mod sections;
 mod set_numbers;
+mod split;
 mod walked;
 mod walks;
 

@@ -1,7 +1,7 @@
 //! Regions: sets of headers at an ingress, with their labels in two networks and the devices that they visit.
 
 ghost use Rattle.std.specs.List.{list_any};
-ghost use Rattle.std.specs.Prelude.{◌≡◌, ◌<◌, ◌≤◌, ◌+◌, ◌++◌, ◌==◌, count_by, IfOk, OnOk, filter, length, map};
+ghost use Rattle.std.specs.Prelude.{◌≡◌, ◌<◌, ◌++◌, ◌==◌, IfOk, OnOk, length, map};
 ghost use Rattle.cube_diagram.specs.Functions.{Keeps, count_of};
 ghost use Rattle.net_view.specs.Borrowed.{world_of};
 ghost use Rattle.incr_review.specs.Regions.{stays};
@@ -59,45 +59,6 @@ fn has_device(devices: &[u32], device: u32) -> bool
 pub struct Touched {
     pub kept: u64,
     pub walked: u64,
-}
-
-/// How many of the regions have no header that visits the device, and how many have one.
-pub(crate) fn touched_by(regions: &[Region], device: u32) -> Touched
-    ensures kept { result.kept ≡ count_by (stays device) regions.now }
-    ensures walked { result.kept + result.walked ≡ length regions.now }
-{
-    let kept = stay_count(regions, device);
-    Touched {
-        kept: kept as u64,
-        walked: (regions.len() - kept) as u64,
-    }
-}
-
-fn stay_count(regions: &[Region], device: u32) -> usize
-    ensures count { result ≡ count_by (stays device) regions.now }
-    ensures most { result ≤ length regions.now }
-{
-    regions
-        .iter()
-        .filter(|region| stays(region, device))
-        .count()
-}
-
-/// Copies of the regions whose headers don't visit the device, in their order.
-pub(crate) fn kept_regions(
-    alloc: Global,
-    regions: &[Region],
-    device: u32,
-) -> Result<Vec<Region>, NoMemory>
-    ensures { IfOk result (λ r. r.items ≡ filter (stays device) regions.now) }
-{
-    let mut kept = Vec::new(alloc);
-    for region in regions {
-        if stays(region, device) {
-            kept.push(region.copy(alloc)?)?;
-        }
-    }
-    Ok(kept)
 }
 
 /// What is walked: a network for all headers, from its ingresses, with this TTL.

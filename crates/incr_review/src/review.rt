@@ -2,12 +2,11 @@
 
 ghost use Rattle.std.specs.Prelude.{◌≡◌, ◌≤◌, ◌<◌, ◌^◌, length, count_by};
 
-use crate::edited::{edited_device, edited_network, put_device};
+use crate::edited::{edited_device, swap_device};
 use crate::edits::{Edit, EditFail};
-use crate::regions::{Region, Touched, touched_by};
+use crate::live::{Change, LiveNetwork, live_network, open_regions, renew, walk_live};
+use crate::regions::{Region, Touched};
 use crate::sections::{rows_of_sections, sections_of};
-use crate::walks::{Leaving, opened, regions_after};
-use cube_diagram::Diagrams;
 use net_types::{Duplicate, Links, Network, NoMemory, Section};
 use net_view::WorldRef;
 use std::alloc::Global;
@@ -23,22 +22,22 @@ pub struct Review<'a> {
     baseline: WorldRef<'a>,
     edited: Network,
     ttl: u8,
-    /// The table that has the sets of the regions.
-    table: Diagrams,
+    /// The edited network as it is walked, with the table that has the sets of the regions.
+    live: LiveNetwork<'a>,
     regions: Vec<Region>,
 }
 
 impl<'a> Model for Review<'a> {
     ghost use Rattle.std.specs.Prelude.{◌≤◌};
     ghost use Rattle.net_view.specs.Borrowed.{world_of};
-    ghost use Rattle.incr_review.specs.Reviews.{ReviewState, IsReview};
+    ghost use Rattle.incr_review.specs.Reviews.{ReviewState, IsKept};
 
     // Contracts see the two networks, the links, the TTL and the regions with their table.
     ghost Value = { ReviewState };
 
-    ghost view = { λ r. record { baseline = world_of r.baseline; edited = r.edited; ttl = r.ttl; table = r.table; regions = r.regions.items } };
+    ghost view = { λ r. record { baseline = world_of r.baseline; edited = r.edited; ttl = r.ttl; table = r.live.tables.diagrams; regions = r.regions.items } };
 
-    ghost invariant = { λ r. IsReview (record { baseline = world_of r.baseline; edited = r.edited; ttl = r.ttl; table = r.table; regions = r.regions.items }) };
+    ghost invariant = { λ r. IsKept (world_of r.baseline) r.edited r.ttl r.live r.regions.items };
 }
 
 impl<'a> Review<'a> {
@@ -73,19 +72,21 @@ impl<'a> Review<'a> {
             links,
         };
         let edited = old.copy(alloc)?;
-        let opened = opened(alloc, world, ttl)?;
+        let mut live = live_network(alloc, world)?;
+        let regions = open_regions(alloc, &mut live, world, ttl)?;
         Ok(Review {
             baseline: world,
             edited,
             ttl,
-            table: opened.table,
-            regions: opened.regions,
+            live,
+            regions,
         })
     }
 
     /// Edits the edited network. The regions whose headers don't visit the edit's device stand first afterwards, unchanged and
-    /// in their order; the headers of the others are walked again, those of one ingress and one old label together. On any
-    /// refusal, want of memory included, the review is as before.
+    /// in their order. Of the headers of the others those whose moves the edit may change are walked again, those of one ingress
+    /// and one old label together. On any refusal, want of memory included, the review is as before, but that its table may have
+    /// more functions.
     ///
     /// # Errors
     ///
@@ -98,34 +99,32 @@ impl<'a> Review<'a> {
         ensures ttl { self.new.ttl ≡ self.old.ttl }
         ensures reviewed { IsReview self.new }
         ensures first { OnOk result (StartsWith (filter (stays (device_of edit.now)) self.old.regions) self.new.regions) }
-        ensures sets { OnOk result (Keeps self.old.table self.new.table) }
+        ensures sets { Keeps self.old.table self.new.table }
         ensures kept { IfOk result (λ t. t.kept ≡ count_by (stays (device_of edit.now)) self.old.regions) }
         ensures walked { IfOk result (λ t. t.kept + t.walked ≡ length self.old.regions) }
         ensures refused { IfErr result (IsFailOf (edited edit.now self.old.edited)) }
-        ensures as_before { OnErr result (self.new ≡ self.old) }
+        ensures as_before { OnErr result (self.new ≡ record self.old { table = self.new.table }) }
     {
-        let device = edit.device();
-        let touched = touched_by(&self.regions, device);
-        if touched.walked == 0 {
-            let changed = edited_device(alloc, &self.edited, edit)?;
-            put_device(alloc, &mut self.edited, changed);
-            return Ok(touched);
-        }
-        let network = edited_network(alloc, &self.edited, edit)?;
+        let changed = edited_device(alloc, &self.edited, edit)?;
+        let before = renew(alloc, &mut self.live, &changed.device)?;
+        let old = swap_device(alloc, &mut self.edited, changed);
         let world = WorldRef {
-            network: &network,
+            network: &self.edited,
             links: self.baseline.links,
         };
-        let leaving = Leaving {
-            regions: &self.regions,
-            device,
+        let change = Change {
+            before: &before,
+            device: &old.device,
             ttl: self.ttl,
         };
-        let after = regions_after(alloc, &self.table, world, leaving)?;
-        self.edited = network;
-        self.table = after.table;
-        self.regions = after.regions;
-        Ok(touched)
+        match walk_live(alloc, &mut self.live, world, change, &mut self.regions) {
+            Ok(touched) => Ok(touched),
+            Err(_) => {
+                swap_device(alloc, &mut self.edited, old);
+                self.live.ways.positions = before;
+                Err(EditFail::NoMemory)
+            }
+        }
     }
 
     /// The report on the old and the edited network: for each ingress, in the order of the links, the canonical rows of exactly
@@ -136,7 +135,7 @@ impl<'a> Review<'a> {
         ensures { IfOk result (λ r. IsReport self.now.baseline.links.ingress self.now.baseline (edited_world self.now) self.now.ttl r.items) }
     {
         let ingress = self.baseline.links.ingress.as_slice();
-        let sections = sections_of(alloc, &self.table, &self.regions, ingress)?;
+        let sections = sections_of(alloc, &self.live.tables.diagrams, &self.regions, ingress)?;
         Ok(sections)
     }
 
@@ -147,7 +146,7 @@ impl<'a> Review<'a> {
         ensures rows { IfOk result (HasRows self.now) }
     {
         let ingress = self.baseline.links.ingress.as_slice();
-        let count = rows_of_sections(alloc, &self.table, &self.regions, ingress)?;
+        let count = rows_of_sections(alloc, &self.live.tables.diagrams, &self.regions, ingress)?;
         Ok(count)
     }
 }

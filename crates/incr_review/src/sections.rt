@@ -6,7 +6,7 @@ ghost use Rattle.net_types.specs.World.{World};
 ghost use Rattle.net_types.specs.Report.{IsReport};
 ghost use Rattle.incr_review.specs.Regions.{AreReviewed};
 ghost use Rattle.incr_review.specs.Reviews.{HasRowsOf};
-ghost use Rattle.incr_review.specs.Sections.{AddsPair, AreBelow, ArePairsOf, IsNumbered};
+ghost use Rattle.incr_review.specs.Sections.{AddsPair, AreBelow, AreDiffering, ArePairsOf, IsNumbered, regions_at};
 
 use crate::regions::Region;
 use crate::set_numbers::on_set;
@@ -26,9 +26,10 @@ pub(crate) fn sections_of(
     requires { AreBelow table.now regions.now }
     ensures { IfOk result (λ r. (old new : World) (t : ℕ) → AreReviewed old new t ingress.now table.now regions.now → IsReport ingress.now old new t r.items) }
 {
+    let differing = differing_regions(alloc, regions)?;
     let mut sections = Vec::with_capacity(alloc, ingress.len())?;
     for (slot, place) in ingress.iter().enumerate() {
-        let given = pairs_of(alloc, table, regions, slot)?;
+        let given = pairs_of(alloc, table, &differing, slot)?;
         let rows = rows_of_function(alloc, &given)?;
         sections.push(Section {
             place: *place,
@@ -49,9 +50,10 @@ pub(crate) fn rows_of_sections(
     requires { AreBelow table.now regions.now }
     ensures { IfOk result (λ n. (old new : World) (t : ℕ) → AreReviewed old new t ingress.now table.now regions.now → HasRowsOf ingress.now old new t n) }
 {
+    let differing = differing_regions(alloc, regions)?;
     let mut count = 0;
     for slot in 0..ingress.len() {
-        let given = pairs_of(alloc, table, regions, slot)?;
+        let given = pairs_of(alloc, table, &differing, slot)?;
         let rows = given.table.row_count(alloc, given.function)?;
         count = sum(count, rows)?;
     }
@@ -69,20 +71,33 @@ fn sum(count: u64, rows: u128) -> Result<u64, NoMemory>
     Ok(sum)
 }
 
-// The pairs of the headers at one ingress whose two labels differ.
+// Those of the regions whose two labels differ, which are few after most edits: so each ingress looks at these alone.
+fn differing_regions(alloc: Global, regions: &[Region]) -> Result<Vec<&Region>, NoMemory>
+    ensures { IfOk result (λ r. AreDiffering regions.now (regions_at r.items)) }
+{
+    let mut differing = Vec::new(alloc);
+    for region in regions {
+        if !region.old.same(&region.new) {
+            differing.push(region)?;
+        }
+    }
+    Ok(differing)
+}
+
+// The pairs of the headers of these regions at one ingress whose two labels differ.
 fn pairs_of(
     alloc: Global,
     table: &Diagrams,
-    regions: &[Region],
+    regions: &[&Region],
     slot: usize,
 ) -> Result<PairFunction, NoMemory>
-    requires { AreBelow table.now regions.now }
-    ensures { IfOk result (ArePairsOf table.now slot regions.now) }
+    requires { AreBelow table.now (regions_at regions.now) }
+    ensures { IfOk result (ArePairsOf table.now slot (regions_at regions.now)) }
 {
     let mut given = no_pairs(alloc)?;
     for region in regions {
         if region.slot as usize == slot {
-            add_pair(alloc, table, region, &mut given)?;
+            add_pair(alloc, table, *region, &mut given)?;
         }
     }
     Ok(given)

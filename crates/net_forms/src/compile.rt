@@ -138,7 +138,12 @@ fn copy_of(alloc: Global, form: &DeviceForm) -> Result<DeviceForm, NoMemory>
     })
 }
 
-fn compile_device(
+/// The form of a device, in these tables. `lists` are its lists whose functions the tables have already.
+///
+/// # Errors
+///
+/// There was no memory. Then functions and fates may have been added, but none that was there is changed.
+pub fn compile_device(
     alloc: Global,
     tables: &mut Tables,
     device: &NetDevice,
@@ -146,7 +151,7 @@ fn compile_device(
 ) -> Result<DeviceForm, NoMemory>
     requires { All (IsKnown tables.old.diagrams device.now.config.lists) lists.now }
     ensures form { IfOk result (λ f. IsDeviceForm tables.new.diagrams tables.new.fates device.now f) }
-    ensures kept { OnOk result (TablesGrow tables.old tables.new) }
+    ensures kept { TablesGrow tables.old tables.new }
 {
     let config = &device.config;
     let rules = config.nat.as_slice();
@@ -179,7 +184,7 @@ fn compile_seats(
 ) -> Result<Vec<SeatForm>, NoMemory>
     requires { All (IsKnown diagrams.old config.now.lists) known.now }
     ensures seats { IfOk result (λ r. AreSeatForms diagrams.new config.now config.now.interfaces r.items) }
-    ensures kept { OnOk result (Keeps diagrams.old diagrams.new) }
+    ensures kept { Keeps diagrams.old diagrams.new }
 {
     let lists = config.lists.as_slice();
     let mut known = known.to_vec(alloc)?;
@@ -203,7 +208,7 @@ fn list_function(
     requires { All (IsKnown diagrams.old lists.now) known.old.items }
     ensures list { IfOk result (IsList diagrams.new (list_in lists.now name.now)) }
     ensures known { OnOk result (All (IsKnown diagrams.new lists.now) known.new.items) }
-    ensures kept { OnOk result (Keeps diagrams.old diagrams.new) }
+    ensures kept { Keeps diagrams.old diagrams.new }
 {
     let Some(position) = list_position(lists, name) else {
         let function = add_list(alloc, diagrams, None)?;

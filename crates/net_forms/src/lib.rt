@@ -13,7 +13,7 @@ mod prepared;
 mod seat;
 mod version;
 
-pub use compile::compile_network;
+pub use compile::{compile_device, compile_network};
 pub use formed::FormedNetwork;
 pub use forms::{DeviceForm, DeviceLists, KnownList, NetworkForm, SeatForm, Tables};
 pub use networks::Networks;

@@ -74,7 +74,7 @@ find_in p (y ∷ ys) x e =
       | false ↦ λ t s. let r = find_in p ys x s in (members.there y x ys r.0, r.1)
     ]) refl e
 
-numbered_there : (d : NetDevice) (i : ℕ) (seat : Seat) (o : Option ℕ) → position (λ n. n == i) d.numbers ≡ o → Some seat ≡ option_and_then (seat_in d) o → Contains d.numbers i
+pub numbered_there : (d : NetDevice) (i : ℕ) (seat : Seat) (o : Option ℕ) → position (λ n. n == i) d.numbers ≡ o → Some seat ≡ option_and_then (seat_in d) o → Contains d.numbers i
 numbered_there d i seat None q e = absurd cc
 numbered_there d i seat (Some j) q e =
     let t = finding.there d.numbers j (at_position (λ n. n == i) d.numbers j (sym q)).1 in
@@ -160,7 +160,7 @@ module _ (w : World) (p : Place) where
         exact = λ h x i m. let t = a.exact h x i m in (λ c. t.0 (subst (λ l. Contains l m) (sym (e h)) c), λ q. subst (λ l. Contains l m) (e h) (t.1 q));
       }
 
-  position_like : (v : World) (fs : Functions) (scope : ℕ) (lists : List PlaceWays) (o : Option ℕ) → ((h : Header) → moves w p h ≡ moves v p h) → IsPosition w fs scope lists p o → IsPosition v fs scope lists p o
+  pub position_like : (v : World) (fs : Functions) (scope : ℕ) (lists : List PlaceWays) (o : Option ℕ) → ((h : Header) → moves w p h ≡ moves v p h) → IsPosition w fs scope lists p o → IsPosition v fs scope lists p o
   position_like v fs scope lists None e a = drops_like v e a
   position_like v fs scope lists (Some i) e a = record { ways = a.ways; there = a.there; right = ways_like v fs scope a.ways.ways.items e a.right }
 
@@ -222,7 +222,7 @@ same_itself n =
       | inr p ↦ absurd (p.1 refl)
     ]
 
-place_itself : (p : Place) → same_place p p ≡ true
+pub place_itself : (p : Place) → same_place p p ≡ true
 place_itself p = ap (λ b. b && nat_eq p.interface p.interface) (same_itself p.device) ∙ same_itself p.interface
 
 module _ (q : Place) (o : Option ℕ) (old new : Place → Option ℕ) (s : IsPut q o old new) where

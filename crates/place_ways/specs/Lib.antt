@@ -3,3 +3,4 @@ pub mod Parts
 pub mod Leaving
 pub mod Seats
 pub mod Places
+pub mod Devices

@@ -43,7 +43,7 @@ pub(crate) fn seat_position(
     requires bases { AreBases at.wiring.now table.old at.scope lists.old.items at.seat.device.now bases.old }
     ensures ways { IfOk result (HasSeatWays at.entry.wiring.now table.new at.entry.scope lists.new.items (seat_of at.entry.seat)) }
     ensures bases { OnOk result (AreBases at.entry.wiring.now table.new at.entry.scope lists.new.items at.entry.seat.device.now bases.new) }
-    ensures lists { OnOk result (Extends lists.old.items lists.new.items) }
+    ensures lists { Extends lists.old.items lists.new.items }
     ensures kept { Keeps table.old table.new }
 {
     let base = base_position(alloc, table, at, bases, lists)?;
@@ -67,7 +67,7 @@ fn base_position(
     requires bases { AreBases at.wiring.now table.old at.scope lists.old.items at.seat.device.now bases.old }
     ensures base { IfOk result (IsBase at.entry.wiring.now table.new at.entry.scope lists.new.items at.entry.seat.device.now (is_inside at.entry.seat.interface.now.side)) }
     ensures bases { OnOk result (AreBases at.entry.wiring.now table.new at.entry.scope lists.new.items at.entry.seat.device.now bases.new) }
-    ensures lists { OnOk result (Extends lists.old.items lists.new.items) }
+    ensures lists { Extends lists.old.items lists.new.items }
     ensures kept { Keeps table.old table.new }
 {
     let inside = is_inside(at.seat.interface.side);
@@ -129,7 +129,7 @@ fn add_own(
     requires at { IsWaySeat table.old at }
     requires base { IsBase at.wiring.now table.old at.scope lists.old.items at.seat.device.now (is_inside at.seat.interface.now.side) base }
     ensures ways { IfOk result (HasSeatWays at.entry.wiring.now table.new at.entry.scope lists.new.items (seat_of at.entry.seat)) }
-    ensures lists { OnOk result (Extends lists.old.items lists.new.items) }
+    ensures lists { Extends lists.old.items lists.new.items }
     ensures kept { Keeps table.old table.new }
 {
     let ways = ways_by(alloc, table, at, &lists[base].ways)?;
@@ -157,7 +157,7 @@ fn ways_by(
 
 fn push_ways(lists: &mut Vec<PlaceWays>, ways: Vec<Way>) -> Result<usize, NoMemory>
     ensures there { IfOk result (λ i. slice_get lists.new.items i ≡ Some (record { ways = ways })) }
-    ensures lists { OnOk result (Extends lists.old.items lists.new.items) }
+    ensures lists { Extends lists.old.items lists.new.items }
 {
     let position = lists.len();
     lists.push(PlaceWays { ways })?;

@@ -11,6 +11,7 @@ mod add;
 mod addresses;
 mod arrive;
 mod base;
+mod device_ways;
 mod forward;
 mod leave;
 mod link;
@@ -19,4 +20,5 @@ mod seat;
 mod sets;
 mod ways;
 
+pub use device_ways::{WiredDevice, put_device};
 pub use ways::{BothWays, NetworkWays, ways_of_both, ways_of_one};

@@ -108,6 +108,7 @@ pub fn ways_of_one<'a>(
     requires form { IsNetworkForm table.old fates.now form.now }
     requires scope { IsScopeOf (world_of form.now.world) table.old scope }
     ensures ways { IfOk result (λ r. ArePlaceWays (world_of form.now.world) table.new scope r.lists.items (get same_place r.positions)) }
+    ensures positions { IfOk result (λ r. ArePositions (world_of form.now.world) table.new scope r.lists.items (get same_place r.positions)) }
     ensures kept { Keeps table.old table.new }
 {
     let network = ScopedNetwork { fates, form, scope };
@@ -310,8 +311,8 @@ fn position_at<'a>(
     Ok(Some(position))
 }
 
-// Gives the place this position, if it is one.
-fn put_position(
+/// Gives the place this position, if it is one.
+pub(crate) fn put_position(
     positions: &mut IndexMap<Place, usize>,
     place: Place,
     position: Option<usize>,

@@ -1,4 +1,4 @@
-use Rattle.std.proofs.Common.{rules, ◌≡◌, ◌∙◌, ap, sym, List, Err, position, set, get_or}
+use Rattle.std.proofs.Common.{rules, ◌≡◌, ◌∙◌, ap, sym, List, Err, Some, position, set, get_or}
 use Rattle.net_types.specs.declared.network.NetDevice.{NetDevice}
 use Rattle.net_types.specs.declared.network.Network.{Network}
 use Rattle.incr_review.specs.declared.edits.EditKind.TheVariants as kind
@@ -42,3 +42,17 @@ returns-clause-ok c =
     let at = at_index devices i x (within test devices i there) (c.index-devices-position.is ∙ ap (λ xs. get_or xs i x) c.as_slice-devices.ensures) in
     let is = changed test kind.UnknownDevice (device_edited edit) devices i x there at in
     ap (map_ok (λ ds. record { devices = ds })) (is ∙ ap (map_ok (λ y. set devices i y)) c.in_ok-device.ensures.ok)
+
+same_item : (x y : NetDevice) → Some x ≡ Some y → x ≡ y
+same_item x y e = cc
+
+pub returns-clause-device : goal.returns-clause-device
+returns-clause-device c x e =
+    let devices = c.args.network.now.devices in
+    let edit = c.args.edit.now in
+    let i = c.in-Some.position in
+    let y = c.index-devices-position.result in
+    let test = is_named (device_of edit) in
+    let there = sym c.in-Some.is ∙ (c.device_position.ensures ∙ (λ k. position (is_named (c.device.ensures k)) (c.as_slice-devices.ensures k))) in
+    let at = at_index devices i y (within test devices i there) (c.index-devices-position.is ∙ ap (λ xs. get_or xs i y) c.as_slice-devices.ensures) in
+    ap (device_edited edit) (same_item x y (sym e ∙ at)) ∙ c.in_ok-device.ensures.ok

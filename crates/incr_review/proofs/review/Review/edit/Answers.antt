@@ -1,66 +1,117 @@
-use Rattle.std.proofs.Common.{◌∙◌, ap, sym, subst, List, Ok}
+use Rattle.std.proofs.Common.{◌≡◌, ◌∙◌, ap, sym, subst, List, Ok, count_by, filter}
+use Rattle.indexmap.specs.IndexMap.{get}
 use Rattle.net_types.specs.declared.network.Network.{Network}
-use Rattle.std.specs.Prelude.{count_by, filter}
+use Rattle.net_types.specs.World.{same_place}
 use Rattle.net_view.specs.Borrowed.{world_of}
+use Rattle.set_walk.proofs.SetLemmas.{kept_below}
+use Rattle.incr_review.specs.declared.live.LiveNetwork.{LiveNetwork}
 use Rattle.incr_review.specs.declared.regions.Region.{Region}
 use Rattle.incr_review.specs.Edited.{device_of}
 use Rattle.incr_review.specs.Regions.{stays, StartsWith}
-use Rattle.incr_review.specs.Reviews.{ReviewState, edited_world}
-use Rattle.incr_review.specs.Again.{ArePlaced}
-use Rattle.incr_review.specs.Groups.{IsDisjoint}
+use Rattle.incr_review.specs.Reviews.{IsKept, IsReview, ReviewState, edited_world}
 use Rattle.incr_review.proofs.GroupLemmas.{reviewed_disjoint}
-use Rattle.incr_review.proofs.ReviewLemmas.{edit_same, edit_walked, first_same, regions_placed}
+use Rattle.incr_review.proofs.KeptLemmas.{back_again, given_before, kept_after, kept_later, live_after, renewed_then, review_after, review_later, starts, walked_renewed, x_named}
+use Rattle.incr_review.proofs.ReviewLemmas.{reviewed_kept}
 use Rattle.incr_review.proofs.review.Review.edit.Goals as goal
 
 pub invariant_of-self : goal.invariant_of-self
 invariant_of-self c =
     let s = c.self.inside in
-    let r : ReviewState = record { baseline = world_of s.baseline; edited = s.edited; ttl = s.ttl; table = s.table; regions = s.regions.items } in
-    let t = c.touched_by-touched in
-    edit_same r c.args.edit.now c.put_device.new.network c.device-device.result t.result.kept t.result.walked c.deref.result.now c.self.invariant (c.in_ok-changed.ensures.ok ∙ ap (λ (x : Network). Ok x) (sym c.put_device.ensures)) c.device-device.ensures c.deref.ensures.value t.ensures.kept t.ensures.walked c.if-touched-eq0.true
+    kept_later (world_of s.baseline) s.edited s.ttl s.live c.renew.new.live s.regions.items c.in_err-before.ensures.renewed c.in_err-before.ensures.as_before c.self.invariant
 
-pub returns-then-touched-eq0-clause-reviewed : goal.returns-then-touched-eq0-clause-reviewed
-returns-then-touched-eq0-clause-reviewed c =
+pub returns-in_err-before-clause-reviewed : goal.returns-in_err-before-clause-reviewed
+returns-in_err-before-clause-reviewed c =
     let s = c.self.inside in
-    let r : ReviewState = record { baseline = world_of s.baseline; edited = s.edited; ttl = s.ttl; table = s.table; regions = s.regions.items } in
-    let t = c.touched_by-touched in
-    edit_same r c.args.edit.now c.put_device.new.network c.device-device.result t.result.kept t.result.walked c.deref.result.now c.self.invariant (c.in_ok-changed.ensures.ok ∙ ap (λ (x : Network). Ok x) (sym c.put_device.ensures)) c.device-device.ensures c.deref.ensures.value t.ensures.kept t.ensures.walked c.if-touched-eq0.true
+    (kept_later (world_of s.baseline) s.edited s.ttl s.live c.renew.new.live s.regions.items c.in_err-before.ensures.renewed c.in_err-before.ensures.as_before c.self.invariant).review
 
-pub returns-then-touched-eq0-clause-first : goal.returns-then-touched-eq0-clause-first
-returns-then-touched-eq0-clause-first c =
+pub walk_live-requires-clause-ways : goal.walk_live-requires-clause-ways
+walk_live-requires-clause-ways c =
     let s = c.self.inside in
-    let r : ReviewState = record { baseline = world_of s.baseline; edited = s.edited; ttl = s.ttl; table = s.table; regions = s.regions.items } in
-    let t = c.touched_by-touched in
-    let same = ap (λ (x : ReviewState). x.regions) c.self.view_is in
-    subst (λ (xs : List Region). StartsWith (filter (stays (device_of c.args.edit.now)) xs) s.regions.items) same
-    (first_same r c.args.edit.now c.device-device.result t.result.kept t.result.walked c.deref.result.now c.device-device.ensures c.deref.ensures.value t.ensures.kept t.ensures.walked c.if-touched-eq0.true)
+    let x = c.swap_device-old.result.device in
+    let there = c.swap_device-old.ensures.device in
+    (live_after (world_of s.baseline) s.edited c.swap_device-old.new.network c.args.edit.now c.in_ok-changed.changed.position x c.in_ok-changed.changed.device c.in_ok-changed.ensures.first there (c.in_ok-changed.ensures.device x there) (c.in_ok-changed.ensures.ok ∙ ap (λ (n : Network). Ok n) (sym c.swap_device-old.ensures.network)) c.swap_device-old.ensures.network s.live c.renew.new.live c.self.invariant.live_is c.in_ok-before.ensures.renewed c.in_ok-before.ensures.put).ways
 
-pub regions_after-requires-clause-placed : goal.regions_after-requires-clause-placed
-regions_after-requires-clause-placed c =
+pub walk_live-requires-clause-before : goal.walk_live-requires-clause-before
+walk_live-requires-clause-before c =
     let s = c.self.inside in
-    let r : ReviewState = record { baseline = world_of s.baseline; edited = s.edited; ttl = s.ttl; table = s.table; regions = s.regions.items } in
-    subst (λ (xs : List Region). ArePlaced r.baseline.links.ingress r.table xs) (sym c.deref-2.ensures.value) (regions_placed r c.self.invariant)
+    let x = c.swap_device-old.result.device in
+    let there = c.swap_device-old.ensures.device in
+    given_before (world_of s.baseline) s.edited c.swap_device-old.new.network c.args.edit.now c.in_ok-changed.changed.position x c.in_ok-changed.changed.device c.in_ok-changed.ensures.first there (c.in_ok-changed.ensures.device x there) (c.in_ok-changed.ensures.ok ∙ ap (λ (n : Network). Ok n) (sym c.swap_device-old.ensures.network)) c.swap_device-old.ensures.network s.live c.renew.new.live c.self.invariant.live_is c.in_ok-before.ensures.renewed c.in_ok-before.ensures.put s.ttl (get same_place c.in_ok-before.before) s.regions.items c.in_ok-before.ensures.before
 
-pub regions_after-requires-clause-disjoint : goal.regions_after-requires-clause-disjoint
-regions_after-requires-clause-disjoint c =
+pub walk_live-requires-clause-placed : goal.walk_live-requires-clause-placed
+walk_live-requires-clause-placed c r m =
     let s = c.self.inside in
-    let r : ReviewState = record { baseline = world_of s.baseline; edited = s.edited; ttl = s.ttl; table = s.table; regions = s.regions.items } in
-    subst (λ (xs : List Region). IsDisjoint r.table xs) (sym c.deref-2.ensures.value) (reviewed_disjoint r.baseline (edited_world r) r.ttl r.baseline.links.ingress r.table r.regions c.self.invariant.reviewed)
+    let reviewed = c.self.invariant.review.reviewed in
+    (reviewed.right.placed r m, kept_below s.live.tables.diagrams c.renew.new.live.tables.diagrams r.headers c.in_ok-before.ensures.renewed.kept (reviewed.right.below r m))
 
-pub invariant_of-self-2 : goal.invariant_of-self-2
-invariant_of-self-2 c =
+pub walk_live-requires-clause-disjoint : goal.walk_live-requires-clause-disjoint
+walk_live-requires-clause-disjoint c =
     let s = c.self.inside in
-    let r : ReviewState = record { baseline = world_of s.baseline; edited = s.edited; ttl = s.ttl; table = s.table; regions = s.regions.items } in
-    edit_walked r c.args.edit.now c.in_ok-network.network c.device-device.result c.in_ok-after.after.table c.deref-2.result.now c.in_ok-after.after.regions.items c.self.invariant c.in_ok-network.ensures.ok c.device-device.ensures c.deref-2.ensures.value c.in_ok-after.ensures.kept c.in_ok-after.ensures.added
+    let v = world_of s.baseline in
+    reviewed_disjoint v (edited_world (record { baseline = v; edited = s.edited; ttl = s.ttl; table = s.live.tables.diagrams; regions = s.regions.items })) s.ttl v.links.ingress c.renew.new.live.tables.diagrams s.regions.items
+    (reviewed_kept v (edited_world (record { baseline = v; edited = s.edited; ttl = s.ttl; table = s.live.tables.diagrams; regions = s.regions.items })) s.ttl v.links.ingress s.live.tables.diagrams c.renew.new.live.tables.diagrams s.regions.items c.in_ok-before.ensures.renewed.kept c.self.invariant.review.reviewed)
 
-pub returns-clause-reviewed : goal.returns-clause-reviewed
-returns-clause-reviewed c =
+pub invariant_of-self-in-Ok-1 : goal.invariant_of-self-in-Ok-1
+invariant_of-self-in-Ok-1 c =
     let s = c.self.inside in
-    let r : ReviewState = record { baseline = world_of s.baseline; edited = s.edited; ttl = s.ttl; table = s.table; regions = s.regions.items } in
-    edit_walked r c.args.edit.now c.in_ok-network.network c.device-device.result c.in_ok-after.after.table c.deref-2.result.now c.in_ok-after.after.regions.items c.self.invariant c.in_ok-network.ensures.ok c.device-device.ensures c.deref-2.ensures.value c.in_ok-after.ensures.kept c.in_ok-after.ensures.added
+    let x = c.swap_device-old.result.device in
+    let there = c.swap_device-old.ensures.device in
+    kept_after (world_of s.baseline) s.edited c.swap_device-old.new.network c.args.edit.now c.in_ok-changed.changed.position x c.in_ok-changed.changed.device c.in_ok-changed.ensures.first there (c.in_ok-changed.ensures.device x there) (c.in_ok-changed.ensures.ok ∙ ap (λ (n : Network). Ok n) (sym c.swap_device-old.ensures.network)) c.swap_device-old.ensures.network s.live c.renew.new.live c.self.invariant.live_is c.in_ok-before.ensures.renewed c.in_ok-before.ensures.put s.ttl (get same_place c.in_ok-before.before) s.regions.items c.in_ok-before.ensures.before c.walk_live.new.live c.walk_live.new.regions.items c.self.invariant.review c.in-Ok.ensures.walked c.in-Ok.ensures.again
 
-pub returns-clause-kept : goal.returns-clause-kept
-returns-clause-kept c =
-    c.touched_by-touched.ensures.kept
-    ∙ ((λ i. count_by (stays (c.device-device.ensures i)) (c.deref.ensures.value i))
-    ∙ ap (λ (x : ReviewState). count_by (stays (device_of c.args.edit.now)) x.regions) c.self.view_is)
+pub returns-in-Ok-clause-reviewed : goal.returns-in-Ok-clause-reviewed
+returns-in-Ok-clause-reviewed c =
+    let s = c.self.inside in
+    let x = c.swap_device-old.result.device in
+    let there = c.swap_device-old.ensures.device in
+    review_after (world_of s.baseline) s.edited c.swap_device-old.new.network c.args.edit.now c.in_ok-changed.changed.position x c.in_ok-changed.changed.device c.in_ok-changed.ensures.first there (c.in_ok-changed.ensures.device x there) (c.in_ok-changed.ensures.ok ∙ ap (λ (n : Network). Ok n) (sym c.swap_device-old.ensures.network)) c.swap_device-old.ensures.network s.live c.renew.new.live c.self.invariant.live_is c.in_ok-before.ensures.renewed c.in_ok-before.ensures.put s.ttl (get same_place c.in_ok-before.before) s.regions.items c.in_ok-before.ensures.before c.walk_live.new.live c.walk_live.new.regions.items c.self.invariant.review c.in-Ok.ensures.walked c.in-Ok.ensures.again
+
+pub returns-in-Ok-clause-first : goal.returns-in-Ok-clause-first
+returns-in-Ok-clause-first c =
+    let s = c.self.inside in
+    let x = c.swap_device-old.result.device in
+    let there = c.swap_device-old.ensures.device in
+    let same = ap (λ (z : ReviewState). z.regions) c.self.view_is in
+    subst (λ (xs : List Region). StartsWith (filter (stays (device_of c.args.edit.now)) xs) c.walk_live.new.regions.items) same
+    (starts (world_of s.baseline) s.edited c.swap_device-old.new.network c.args.edit.now c.in_ok-changed.changed.position x c.in_ok-changed.changed.device c.in_ok-changed.ensures.first there (c.in_ok-changed.ensures.device x there) (c.in_ok-changed.ensures.ok ∙ ap (λ (n : Network). Ok n) (sym c.swap_device-old.ensures.network)) c.swap_device-old.ensures.network s.live c.renew.new.live c.self.invariant.live_is c.in_ok-before.ensures.renewed c.in_ok-before.ensures.put s.ttl (get same_place c.in_ok-before.before) s.regions.items c.in_ok-before.ensures.before c.walk_live.new.live c.walk_live.new.regions.items c.self.invariant.review c.in-Ok.ensures.walked c.in-Ok.ensures.again)
+
+pub returns-in-Ok-clause-kept : goal.returns-in-Ok-clause-kept
+returns-in-Ok-clause-kept c =
+    let s = c.self.inside in
+    let x = c.swap_device-old.result.device in
+    let there = c.swap_device-old.ensures.device in
+    let named : x.name ≡ device_of c.args.edit.now = x_named (world_of s.baseline) s.edited c.swap_device-old.new.network c.args.edit.now c.in_ok-changed.changed.position x c.in_ok-changed.changed.device c.in_ok-changed.ensures.first there (c.in_ok-changed.ensures.device x there) (c.in_ok-changed.ensures.ok ∙ ap (λ (n : Network). Ok n) (sym c.swap_device-old.ensures.network)) c.swap_device-old.ensures.network in
+    c.in-Ok.ensures.stay
+    ∙ (ap (λ n. count_by (stays n) s.regions.items) named
+    ∙ ap (λ (z : ReviewState). count_by (stays (device_of c.args.edit.now)) z.regions) c.self.view_is)
+
+pub invariant_of-self-in-Err : goal.invariant_of-self-in-Err
+invariant_of-self-in-Err c =
+    let s = c.self.inside in
+    let x = c.swap_device-old.result.device in
+    let back = back_again s.edited c.swap_device-old.new.network c.swap_device.new.network c.in_ok-changed.changed.position c.swap_device-old.result.position x c.in_ok-changed.changed.device c.swap_device-old.ensures.network c.swap_device-old.ensures.position c.swap_device.ensures.network c.swap_device-old.ensures.device in
+    let z = renewed_then s.live c.renew.new.live c.walk_live.new.live c.in_ok-before.ensures.renewed (walked_renewed c.renew.new.live c.walk_live.new.live c.in-Err.ensures.walked) in
+    let n = c.walk_live.new.live in
+    let last : LiveNetwork = record n { ways = record n.ways { positions = c.in_ok-before.before } } in
+    subst (λ (m : Network). IsKept (world_of s.baseline) m s.ttl last c.walk_live.new.regions.items) (sym back)
+    (subst (λ (rs : List Region). IsKept (world_of s.baseline) s.edited s.ttl last rs) (sym c.in-Err.ensures.as_before)
+    (kept_later (world_of s.baseline) s.edited s.ttl s.live last s.regions.items (record { wiring = z.wiring; scope = z.scope; plain = z.plain; lists = z.lists; kept = z.kept }) c.in_ok-before.ensures.before c.self.invariant))
+
+pub returns-in-Err-clause-reviewed : goal.returns-in-Err-clause-reviewed
+returns-in-Err-clause-reviewed c =
+    let s = c.self.inside in
+    let x = c.swap_device-old.result.device in
+    let back = back_again s.edited c.swap_device-old.new.network c.swap_device.new.network c.in_ok-changed.changed.position c.swap_device-old.result.position x c.in_ok-changed.changed.device c.swap_device-old.ensures.network c.swap_device-old.ensures.position c.swap_device.ensures.network c.swap_device-old.ensures.device in
+    let z = renewed_then s.live c.renew.new.live c.walk_live.new.live c.in_ok-before.ensures.renewed (walked_renewed c.renew.new.live c.walk_live.new.live c.in-Err.ensures.walked) in
+    let g = c.walk_live.new.live.tables.diagrams in
+    subst (λ (n : Network). IsReview (record { baseline = world_of s.baseline; edited = n; ttl = s.ttl; table = g; regions = c.walk_live.new.regions.items })) (sym back)
+    (subst (λ (rs : List Region). IsReview (record { baseline = world_of s.baseline; edited = s.edited; ttl = s.ttl; table = g; regions = rs })) (sym c.in-Err.ensures.as_before)
+    (review_later (world_of s.baseline) s.edited s.ttl s.live.tables.diagrams g s.regions.items z.kept c.self.invariant.review))
+
+pub returns-in-Err-clause-as_before : goal.returns-in-Err-clause-as_before
+returns-in-Err-clause-as_before c =
+    let s = c.self.inside in
+    let x = c.swap_device-old.result.device in
+    let g = c.walk_live.new.live.tables.diagrams in
+    let back = back_again s.edited c.swap_device-old.new.network c.swap_device.new.network c.in_ok-changed.changed.position c.swap_device-old.result.position x c.in_ok-changed.changed.device c.swap_device-old.ensures.network c.swap_device-old.ensures.position c.swap_device.ensures.network c.swap_device-old.ensures.device in
+    let first : ◌≡◌ {A = ReviewState} (record { baseline = world_of s.baseline; edited = c.swap_device.new.network; ttl = s.ttl; table = g; regions = c.walk_live.new.regions.items }) (record { baseline = world_of s.baseline; edited = s.edited; ttl = s.ttl; table = g; regions = s.regions.items }) = λ i. record { baseline = world_of s.baseline; edited = back i; ttl = s.ttl; table = g; regions = c.in-Err.ensures.as_before i } in
+    first ∙ ap (λ (z : ReviewState). record z { table = g }) c.self.view_is

@@ -4,4 +4,4 @@ use Rattle.incr_review.specs.Sections.{AreBelow}
 use Rattle.incr_review.proofs.review.Review.sections.Goals as goal
 
 pub sections_of-requires : goal.sections_of-requires
-sections_of-requires c = subst (λ (rs : List Region). AreBelow c.self.inside.table rs) (sym c.deref.ensures.value) c.self.invariant.reviewed.right.below
+sections_of-requires c = subst (λ (rs : List Region). AreBelow c.self.inside.live.tables.diagrams rs) (sym c.deref.ensures.value) c.self.invariant.review.reviewed.right.below
