@@ -6,3 +6,4 @@ pub mod GapLemmas
 pub mod Unions
 pub mod Showing
 pub mod ShownLemmas
+pub mod LeastLemmas

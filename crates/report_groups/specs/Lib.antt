@@ -5,3 +5,4 @@ pub mod Meaning
 pub mod Shown
 pub mod Entries
 pub mod Changes
+pub mod Least

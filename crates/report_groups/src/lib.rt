@@ -11,6 +11,7 @@ mod gaps;
 mod groups;
 mod joining;
 pub mod laws;
+mod least;
 mod parts;
 mod shown;
 mod spans;
@@ -18,4 +19,5 @@ mod types;
 
 pub use change::change_of;
 pub use groups::group_rows;
+pub use least::least_header;
 pub use types::{Change, Entry, Flags, Group, Part, Pattern, Shown, Span, Values};

@@ -1,3 +1,5 @@
+//! Groups as values: the patterns that they are made of, and what a person reads of them.
+
 ghost use Rattle.std.specs.Prelude.{◌≡◌, length};
 
 use net_types::{List, Outcome};

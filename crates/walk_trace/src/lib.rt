@@ -17,6 +17,7 @@ mod translation;
 mod types;
 mod walked;
 
-pub use text::trace_bytes;
-pub use traced::trace;
+pub use site::Site;
+pub use text::{state_bytes, trace_bytes};
+pub use traced::{trace, trace_on};
 pub use types::{Trace, TraceChoice, TraceEnd, TraceFate, TraceState};

@@ -5,13 +5,14 @@ use crate::routes::Routes;
 use hdr_bits::Header;
 use link_sends::{Sent, Wiring};
 use net_types::{Hop, Move, NetDevice, NoMemory, Place, State};
-use net_view::{SeatRef, WorldRef, seat_at};
+use net_view::{SeatRef, WorldRef, device_at, seat_numbered};
 use std::alloc::Global;
 use std::marker::Model;
 
-/// A network with its links, which are indexed, and what is kept of its devices.
+/// A network with its links, which are indexed, and what is kept of its devices: where many packets are traced, each of them finds
+/// what the earlier ones asked. What is kept changes no answer.
 #[derive(Drop)]
-pub(crate) struct Site<'a> {
+pub struct Site<'a> {
     world: WorldRef<'a>,
     wiring: Wiring<'a>,
     routes: Routes<'a>,
@@ -31,14 +32,16 @@ impl<'a> Model for Site<'a> {
 }
 
 impl<'a> Site<'a> {
-    ghost use Rattle.std.specs.Prelude.{◌≡◌, IfOk, IfSome, option_map};
+    ghost use Rattle.std.specs.Prelude.{◌≡◌, ◌==◌, IfOk, IfSome, find, option_map};
+    ghost use Rattle.std.specs.Option.{option_copied};
     ghost use Rattle.net_types.specs.Moves.{send};
     ghost use Rattle.net_types.specs.World.{seat_at, segment_of};
     ghost use Rattle.net_view.specs.Borrowed.{world_of, seat_of};
     ghost use Rattle.walk_trace.specs.Kept.{IsFirst, IsSeated};
     ghost use Rattle.walk_trace.specs.Numbered.{choices, ordered_moves};
 
-    pub(crate) fn of(alloc: Global, world: WorldRef<'a>) -> Result<Site<'a>, NoMemory>
+    /// A network of which nothing is kept yet. It is made in near linear time.
+    pub fn of(alloc: Global, world: WorldRef<'a>) -> Result<Site<'a>, NoMemory>
         ensures { IfOk result (λ site. site ≡ world_of world.entry) }
     {
         let wiring = Wiring::of(alloc, world)?;
@@ -55,7 +58,27 @@ impl<'a> Site<'a> {
         ensures seat { option_map seat_of result ≡ seat_at self.now place }
         ensures first { IfSome result (λ seat. IsSeated self.now (seat_of seat)) }
     {
-        seat_at(self.world, place)
+        self.seat_at(place)
+    }
+
+    // The same, without a scan of the devices.
+    fn seat_at(&self, place: Place) -> Option<SeatRef<'a>>
+        ensures { option_map seat_of result ≡ seat_at self.now place }
+    {
+        let Some(device) = self.device_named(place.device) else {
+            return None;
+        };
+        seat_numbered(device, place.interface)
+    }
+
+    // The first device of this name, without a scan.
+    fn device_named(&self, name: u32) -> Option<&'a NetDevice>
+        ensures { option_copied result ≡ find (λ d. d.name == name) self.now.network.devices }
+    {
+        let Some(position) = self.wiring.device_position(name) else {
+            return None;
+        };
+        device_at(self.world.network.devices.as_slice(), position)
     }
 
     /// What becomes of a packet that is sent out of the interface to the next address.

@@ -1,3 +1,5 @@
+//! A trace as text: the lines of each state, and the outcome.
+
 ghost use Rattle.std.specs.Prelude.{◌≡◌, ◌++◌, codes, decimal, flat_map, IfOk, OnOk};
 ghost use Rattle.report_text.specs.FieldText.{address_text, header_text};
 ghost use Rattle.report_text.specs.ReportText.{name_text, place_text, change_text, outcome_text, label_text};
@@ -32,6 +34,24 @@ pub fn trace_bytes(alloc: Global, names: &Names, trace: &Trace) -> Result<Vec<u8
     append(&mut text, b"outcome ")?;
     append_label(alloc, &mut text, names, &trace.outcome)?;
     append(&mut text, b"\n")?;
+    Ok(text)
+}
+
+/// What is told of a state under this number: its lines, as they stand in the text of a trace.
+///
+/// # Errors
+///
+/// There was no memory.
+pub fn state_bytes(
+    alloc: Global,
+    names: &Names,
+    number: usize,
+    state: &TraceState,
+) -> Result<Vec<u8>, NoMemory>
+    ensures text { IfOk result (λ text. text.items ≡ state_text names.now number state.now) }
+{
+    let mut text = Vec::new(alloc);
+    append_state(alloc, &mut text, names, number, state)?;
     Ok(text)
 }
 

@@ -1,3 +1,5 @@
+//! The trace of a packet: its states in the order of their numbers, each with what is told of it, and the outcome.
+
 ghost use Rattle.std.specs.Prelude.{◌≡◌, ◌≤◌, IfOk, map};
 ghost use Rattle.net_types.specs.Walks.{state_at};
 ghost use Rattle.walk_trace.specs.Numbered.{numbered};
@@ -37,8 +39,13 @@ pub fn trace(
     trace_on(alloc, &mut site, place, h, ttl)
 }
 
-// What the devices are asked is kept before it is told.
-fn trace_on(
+/// The trace of a packet on a network of which some is kept: what its devices are asked is kept before it is told, and so are the
+/// answers for the packets that follow.
+///
+/// # Errors
+///
+/// There was no memory.
+pub fn trace_on(
     alloc: Global,
     site: &mut Site,
     place: Place,
@@ -46,7 +53,8 @@ fn trace_on(
     ttl: u8,
 ) -> Result<Trace, NoMemory>
     requires { 1 ≤ ttl }
-    ensures { IfOk result (λ trace. trace ≡ traced site.old ttl place h.now) }
+    ensures traced { IfOk result (λ trace. trace ≡ traced site.old ttl place h.now) }
+    ensures same { site.new ≡ site.old }
 {
     keep_walked(alloc, site, ttl, &State { place, header: *h })?;
     trace_told(alloc, site, place, h, ttl)

@@ -8,5 +8,5 @@ returns c = record {
   traced =
       subst (λ (w : World). IfOk c.trace_on.result (λ trace. trace ≡ traced w c.args.ttl c.args.place c.args.h.now))
       c.in_ok-site.ensures
-      c.trace_on.ensures;
+      c.trace_on.ensures.traced;
 }

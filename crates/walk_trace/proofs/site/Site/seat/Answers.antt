@@ -1,9 +1,5 @@
-use Rattle.std.proofs.Common.{ap, ◌∙◌}
-use Rattle.net_types.specs.World.{World, seat_at}
-use Rattle.net_view.specs.Borrowed.{world_of}
 use Rattle.walk_trace.proofs.SeatLemmas.{seat_found}
 use Rattle.walk_trace.proofs.site.Site.seat.Goals as goal
 
 pub returns-clause-first : goal.returns-clause-first
-returns-clause-first c =
-    seat_found c.args.self.now c.args.place c.seat_at.result (c.seat_at.ensures ∙ ap (λ (w : World). seat_at w c.args.place) c.self.view_is)
+returns-clause-first c = seat_found c.args.self.now c.args.place c.seat_at.result c.seat_at.ensures
