@@ -36,13 +36,13 @@ does_stop words (Some t) h = h t
 
 -- ---- what may stop a view that is accepted
 
-some_is : {A : Type 0} (o : Option A) (x y : A) → o ≡ Some x → o ≡ Some y → x ≡ y
+pub some_is : {A : Type 0} (o : Option A) (x y : A) → o ≡ Some x → o ≡ Some y → x ≡ y
 some_is o x y a b = cc
 
 none_some : {A : Type 0} (o : Option A) (x : A) → o ≡ None → o ≡ Some x → ⊥
 none_some o x a b = cc
 
-report_fails : (path bytes : List ℕ) (s : Stop) → IsReport bytes → ReportFails path bytes s → MayAlwaysStop s
+pub report_fails : (path bytes : List ℕ) (s : Stop) → IsReport bytes → ReportFails path bytes s → MayAlwaysStop s
 report_fails path bytes (stop.Refused p line kind word) is (same, fails, none, silent) = absurd (fails.none is.sections is.report)
 report_fails path bytes stop.NoMemory is h = tt
 report_fails path bytes (stop.CannotRead p) is h = tt
@@ -51,8 +51,8 @@ report_fails path bytes (stop.TooManyFiles p) is h = h
 report_fails path bytes (stop.HostnameTaken p q) is h = h
 report_fails path bytes (stop.NotFound p) is h = h
 
-module _ (t : Told) (m : Manner) (path : List ℕ) (s : Stop) (a : AcceptedReport t path) where
-  file_may_stop : (r : Stop) → UnreadReport path (content t path) r → MayAlwaysStop r
+module _ (t : Told) (path : List ℕ) (a : AcceptedReport t path) where
+  pub file_may_stop : (r : Stop) → UnreadReport path (content t path) r → MayAlwaysStop r
   file_may_stop (stop.CannotRead p) h = tt
   file_may_stop stop.NoMemory h = tt
   file_may_stop (stop.NotFound p) h = none_some (content t path) a.bytes h.1 a.there
@@ -64,14 +64,15 @@ module _ (t : Told) (m : Manner) (path : List ℕ) (s : Stop) (a : AcceptedRepor
   file_may_stop (stop.Refused p n k w) h = h
   file_may_stop (stop.HostnameTaken p q) h = h
 
+module _ (t : Told) (m : Manner) (path : List ℕ) (s : Stop) (a : AcceptedReport t path) where
   views_may_stop : (bytes : List ℕ) → content t path ≡ Some bytes → Views m path bytes (Err s) → MayAlwaysStop s
   views_may_stop bytes there fails = report_fails path a.bytes s a.report (subst (λ (b : List ℕ). ReportFails path b s) (some_is (content t path) bytes a.bytes there a.there) fails)
 
   shows_may_stop : (links : Option (List ℕ)) → AcceptedTable t links → Shows t m path links (Err s) → MayAlwaysStop s
   shows_may_stop None b h =
-      then_may_stop (GivesReport (λ (bs : List ℕ). bs) path (content t path)) (Views m path) s file_may_stop (λ bytes given fails. views_may_stop bytes given.0 fails) h
+      then_may_stop (GivesReport (λ (bs : List ℕ). bs) path (content t path)) (Views m path) s (file_may_stop t path a) (λ bytes given fails. views_may_stop bytes given.0 fails) h
   shows_may_stop (Some links) b h =
-      then_may_stop (GivesReport (λ (bs : List ℕ). bs) path (content t path)) (ViewsWith t m path links) s file_may_stop
+      then_may_stop (GivesReport (λ (bs : List ℕ). bs) path (content t path)) (ViewsWith t m path links) s (file_may_stop t path a)
       (λ bytes given next. then_may_stop (GivesLinks t links) (λ table. Views m path bytes) s (links_may_stop t links b) (λ table read fails. views_may_stop bytes given.0 fails) next)
       h
 

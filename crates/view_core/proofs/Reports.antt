@@ -1,5 +1,5 @@
 -- Texts that are reports, and those that aren't.
-use Rattle.std.proofs.Common.{◌≡◌, ℕ, ◌≤◌, false, length, List, [], Ok, Err, refl, sym, subst}
+use Rattle.std.proofs.Common.{◌≡◌, ℕ, ◌≤◌, false, length, List, [], Ok, Err, Vec, Global, refl, ap, sym, subst}
 use Rattle.net_types.specs.declared.network.Names.{Names}
 use Rattle.net_types.specs.declared.network.Section.{Section}
 use Rattle.report_text.specs.Reports.{IsReportOf, ReadsReport}
@@ -7,8 +7,9 @@ use Rattle.report_text.specs.declared.reader.ReportFail.{ReportFail}
 use Rattle.report_text.specs.declared.reader.ReportFail.TheVariants.{NotReport}
 use Rattle.view_core.specs.Names.{names_of, text_lines}
 use Rattle.view_core.specs.declared.words.Manner.{Manner}
-use Rattle.view_core.specs.Reports.{IsReport, IsNoReport}
-use Rattle.view_core.specs.Views.{IsView, Views}
+use Rattle.view_core.specs.Reports.{IsReport, IsNoReport, own_names}
+use Rattle.view_core.specs.declared.reading.Reported.{Reported}
+use Rattle.view_core.specs.Views.{IsView, Views, SaysReport}
 use Rattle.job_core.specs.declared.report.Report.{Report}
 use Rattle.job_core.specs.declared.stop.Stop.TheVariants as stop
 use Rattle.view_core.proofs.OwnNames as own
@@ -22,12 +23,17 @@ is_none names bytes line same none low high = record { none = λ sections r. non
 pub refused_views : (m : Manner) (path bytes : List ℕ) (line : ℕ) (kind word : List ℕ) → IsNoReport bytes line → kind ≡ [] → word ≡ [] → Views m path bytes (Err (stop.Refused path line kind word))
 refused_views m path bytes line kind word fails none silent = (refl, fails, none, silent)
 
--- a text that was read is shown
-pub shown_views : (m : Manner) (path bytes : List ℕ) (names : Names) (sections : List Section) (r : Report) → names.texts ≡ names_of bytes → IsReportOf names sections bytes → IsView m names sections r.text.items → r.affected ≡ false → Views m path bytes (Ok r)
-unfolding is_report
-shown_views m path bytes names sections r same read shown plain =
-    ((is_report names sections bytes same read, subst (λ (ts : List (List ℕ)). IsView m (record { texts = ts }) sections r.text.items) same shown), plain)
-
 -- what is no report is the report of no sections
 pub no_sections : {X : Type 0} (view : X → List Section) (names : Names) (bytes : List ℕ) (fail : ReportFail) → fail ≡ NotReport → ReadsReport view names bytes (Err fail) → (sections : List Section) → IsReportOf names sections bytes → ⊥
 no_sections view names bytes fail e reads = subst (λ f. ReadsReport view names bytes (Err f)) e reads
+
+-- what was read is what the text says
+pub says_report : (path bytes : List ℕ) (names : Names) (sections : Vec Section Global) → names.texts ≡ names_of bytes → IsReportOf names sections.items bytes → SaysReport path bytes (Ok (record { names = names; sections = sections }))
+says_report path bytes names sections same read =
+    (ap (λ (ts : List (List ℕ)). record { texts = ts }) same, subst (λ (ts : List (List ℕ)). IsReportOf (record { texts = ts }) sections.items bytes) same read)
+
+-- a report that was read is shown
+pub reported_views : (m : Manner) (path bytes : List ℕ) (reported : Reported) (r : Report) → SaysReport path bytes (Ok reported) → IsView m reported.names reported.sections.items r.text.items → r.affected ≡ false → Views m path bytes (Ok r)
+unfolding is_report
+reported_views m path bytes reported r says shown plain =
+    ((is_report (own_names bytes) reported.sections.items bytes refl says.1, subst (λ (n : Names). IsView m n reported.sections.items r.text.items) says.0 shown), plain)

@@ -1,5 +1,5 @@
 pub mod Names
-pub mod Lines
+pub mod Groups
 pub mod Words
 pub mod Reports
 pub mod Csv

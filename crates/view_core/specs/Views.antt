@@ -9,6 +9,8 @@ use Rattle.job_core.specs.declared.stop.Stop.{Stop}
 use Rattle.job_core.specs.declared.stop.Stop.TheVariants as stop
 use Rattle.job_core.specs.Accepted.{AcceptedLinks}
 use Rattle.job_core.specs.Steps.{Then, GivesLinks}
+use Rattle.report_text.specs.Reports.{IsReportOf}
+use Rattle.view_core.specs.declared.reading.Reported.{Reported}
 use Rattle.view_core.specs.declared.words.Format.{Format}
 use Rattle.view_core.specs.declared.words.Format.TheVariants as format
 use Rattle.view_core.specs.declared.words.Manner.{Manner}
@@ -58,6 +60,11 @@ abbrev pub ReportFails : List ℕ → List ℕ → Stop → Type 0
 ReportFails path bytes (stop.Refused p line kind word) = (p ≡ path) × IsNoReport bytes line × (kind ≡ []) × (word ≡ [])
 ReportFails path bytes stop.NoMemory = Unit {0}
 ReportFails path bytes _ = ⊥
+
+-- the report that a text is, over the names of its own lines; or why it is none
+abbrev pub SaysReport : List ℕ → List ℕ → Result Reported Stop → Type 0
+SaysReport path bytes (Ok r) = (r.names ≡ own_names bytes) × IsReportOf (own_names bytes) r.sections.items bytes
+SaysReport path bytes (Err s) = ReportFails path bytes s
 
 -- the view of a text that is a report, or why there is none
 abbrev pub Views : Manner → List ℕ → List ℕ → Result Report Stop → Type 0

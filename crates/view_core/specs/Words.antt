@@ -1,15 +1,10 @@
 -- What the words of the command line ask.
-use Rattle.std.specs.Prelude.{ℕ, Bool, true, false, not, ◌==◌, ◌&&◌, ◌||◌, List, [], ◌∷◌, Option, Some, None, unwrap_or, is_some, codes, if◌then◌else◌}
+use Rattle.std.specs.Prelude.{ℕ, Bool, true, false, ◌&&◌, ◌||◌, List, [], ◌∷◌, Option, Some, None, unwrap_or, is_some, codes, if◌then◌else◌}
 use Rattle.std.specs.Str.{bytes_eq}
+use Rattle.view_words.specs.Usage.{is_operand, usage_text, version_text}
 use Rattle.view_core.specs.declared.words.Format.{Format}
 use Rattle.view_core.specs.declared.words.Format.TheVariants as format
 use Rattle.view_core.specs.declared.words.Manner.{Manner}
-use Rattle.view_core.specs.Lines.{usage_text, version_text}
-
--- a word that begins with '-' is an option
-abbrev pub is_path : List ℕ → Bool
-is_path [] = false
-is_path (c ∷ word) = not (c == 45)
 
 -- the format that an option asks for
 abbrev pub format_named : List ℕ → Option Format
@@ -60,8 +55,8 @@ takes_links _ = false
 
 -- the path of the report, behind which that of a link table may stand for a page
 abbrev pub path_in : Bool → List (List ℕ) → Option (List ℕ)
-path_in linked (path ∷ []) = if is_path path then Some path else None
-path_in linked (path ∷ links ∷ []) = if (linked && is_path links) && is_path path then Some path else None
+path_in linked (path ∷ []) = if is_operand path then Some path else None
+path_in linked (path ∷ links ∷ []) = if (linked && is_operand links) && is_operand path then Some path else None
 path_in linked _ = None
 
 abbrev pub path_of : List (List ℕ) → Option (List ℕ)

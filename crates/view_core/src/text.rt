@@ -1,6 +1,7 @@
 //! A report as text for a person.
 ghost use Rattle.std.specs.Prelude.{◌≡◌, ◌++◌, length, IfOk, OnOk};
-ghost use Rattle.report_text.specs.ReportText.{name_text};
+ghost use Rattle.report_text.specs.ReportText.{name_text, label_text};
+ghost use Rattle.view_core.specs.Groups.{change_words, headers_text, group_text};
 ghost use Rattle.view_core.specs.Views.{HasFront, title_line, summary_head};
 
 use crate::appending::{append, append_number};
@@ -21,7 +22,9 @@ pub(crate) const ORDER: [Change; 5] = [
 ];
 
 /// What a kind of change is called.
-pub(crate) fn change_name(change: Change) -> &'static [u8] {
+pub(crate) fn change_name(change: Change) -> &'static [u8]
+    ensures { result.now ≡ change_words change }
+{
     match change {
         Change::Loops => b"loops",
         Change::Closes => b"closes",
@@ -237,16 +240,33 @@ fn append_entry(
     entry: &Entry,
 ) -> Result<(), NoMemory> {
     append(out, b"  ")?;
-    append(out, change_name(entry.change))?;
-    append_headers(alloc, out, names, entry)
+    append(out, &group_bytes(alloc, names, entry)?)
 }
 
+/// The line of a group: what the change does to its packets, its headers, and their outcomes in the two networks.
+///
+/// # Errors
+///
+/// There was no memory.
+#[tactic(auto, unfolding(crate::specs::Groups::group_text))]
+pub fn group_bytes(alloc: Global, names: &Names, entry: &Entry) -> Result<Vec<u8>, NoMemory>
+    ensures { IfOk result (λ text. text.items ≡ group_text names.now entry.now) }
+{
+    let mut text = Vec::new(alloc);
+    append(&mut text, change_name(entry.change))?;
+    append_headers(alloc, &mut text, names, entry)?;
+    Ok(text)
+}
+
+#[tactic(auto, unfolding(crate::specs::Groups::headers_text))]
 fn append_headers(
     alloc: Global,
     out: &mut Vec<u8>,
     names: &Names,
     entry: &Entry,
-) -> Result<(), NoMemory> {
+) -> Result<(), NoMemory>
+    ensures { OnOk result (out.new.items ≡ out.old.items ++ headers_text names.now entry.now) }
+{
     append_fields(alloc, out, &entry.shown)?;
     append(out, b": ")?;
     append_outcomes(alloc, out, names, &entry.group.old)?;
@@ -255,19 +275,22 @@ fn append_headers(
     append(out, b"\n")
 }
 
-pub(crate) fn append_outcomes(
+/// Adds outcomes at the end, with ` | ` between them. Where memory runs out, a part of them may stand there.
+pub fn append_outcomes(
     alloc: Global,
     out: &mut Vec<u8>,
     names: &Names,
     outcomes: &List<Outcome>,
-) -> Result<(), NoMemory> {
-    let mut first = true;
-    for outcome in outcomes.as_slice() {
-        if !first {
-            append(out, b" | ")?;
-        }
+) -> Result<(), NoMemory>
+    ensures { OnOk result (out.new.items ≡ out.old.items ++ label_text names.now outcomes.now) }
+{
+    let [first, rest @ ..] = outcomes.as_slice() else {
+        return Ok(());
+    };
+    append(out, &outcome_bytes(alloc, names, first)?)?;
+    for outcome in rest {
+        append(out, b" | ")?;
         append(out, &outcome_bytes(alloc, names, outcome)?)?;
-        first = false;
     }
     Ok(())
 }

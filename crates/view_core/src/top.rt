@@ -3,25 +3,22 @@
 ghost use Rattle.std.specs.Prelude.{◌≡◌, ◌≢◌, None, Some, true, false, IfSome, IfOk, IfErr, map, string_bytes, option_map, length};
 ghost use Rattle.job_core.specs.Causes.{HasCause, WasRead};
 ghost use Rattle.job_core.specs.Endings.{Ends};
-ghost use Rattle.view_core.specs.Lines.{usage_text};
-ghost use Rattle.view_core.specs.Reports.{own_names};
+ghost use Rattle.view_words.specs.Usage.{usage_text};
 ghost use Rattle.view_core.specs.Views.{IsView, Views, ViewsWith, Shows, Says, Does, IsAccepted};
 ghost use Rattle.view_core.specs.Words.{is_asked};
 
 use crate::csv::csv_bytes;
-use crate::faults::fault_line;
 use crate::json::json_bytes;
-use crate::names::names_of;
 use crate::page::page_bytes;
-use crate::reading::read_report_file;
+use crate::reading::{read_report_file, report_in};
 use crate::text::view_bytes;
-use crate::words::{Format, Manner, USAGE, is_asked, links_of, manner_of, path_of, said};
+use crate::words::{Format, Manner, is_asked, links_of, manner_of, path_of, said};
 use job_core::{Report, Stop, finish, read_links_file, refuse};
 use net_io::{Files, Sink};
-use net_types::{Names, NoMemory, Section, Text};
-use report_text::{ReportFail, read_report};
+use net_types::{Names, NoMemory, Section};
 use std::alloc::Global;
 use topo_links::LinkTable;
+use view_words::USAGE;
 
 /// Does what the words ask, and answers the status: 0 where it was written, and else as every program of the house.
 pub fn view_run<F: Files, O: Sink, E: Sink>(
@@ -165,18 +162,12 @@ fn view_of(
     ensures plain { IfOk result (λ r. r.affected ≡ false) }
     ensures read { IfErr result WasRead }
 {
-    let names = names_of(alloc, bytes)?;
-    match read_report(alloc, &names, bytes) {
-        Ok(sections) => {
-            let report = shown(alloc, &names, &sections, links, manner)?;
+    match report_in(alloc, path, bytes) {
+        Ok(read) => {
+            let report = shown(alloc, &read.names, &read.sections, links, manner)?;
             Ok(report)
         }
-        Err(ReportFail::NotReport) => {
-            let line = fault_line(alloc, bytes)?;
-            let none = Text::new(Vec::new(alloc));
-            Err(Stop::refused(alloc, path, line, "", none)?)
-        }
-        Err(ReportFail::NoMemory) => Err(Stop::NoMemory),
+        Err(stop) => Err(stop),
     }
 }
 

@@ -1,16 +1,11 @@
 //! The words of the command line.
 ghost use Rattle.std.specs.Prelude.{◌≡◌, map, string_bytes, option_map, IfOk, if◌then◌else◌, Some, None};
-ghost use Rattle.view_core.specs.Words.{is_path, format_named, format_of, behind_format, has_title, is_title, title_in, behind_title, paths_of, title_of, takes_links, path_in, path_of, links_in, links_of, manner_of, said, said_of, is_asked};
+ghost use Rattle.view_words.specs.Usage.{is_operand};
+ghost use Rattle.view_core.specs.Words.{format_named, format_of, behind_format, has_title, is_title, title_in, behind_title, paths_of, title_of, takes_links, path_in, path_of, links_in, links_of, manner_of, said, said_of, is_asked};
 
 use net_types::{NoMemory, Text};
 use std::alloc::Global;
-
-/// How the program is used.
-pub(crate) const USAGE: &[u8] =
-    b"usage:\n  view [--title TEXT] REPORT\n  view --html [--title TEXT] REPORT [LINKS]\n  view --json REPORT\n  view --csv REPORT\n  view --help\n  view --version\n";
-
-// Which program it is.
-const VERSION: &[u8] = b"view of Diqenyu, schema 1\n";
+use view_words::{USAGE, VERSION, is_operand};
 
 /// A form in which a report is shown.
 #[derive(Clone, Copy, Debug, PartialEq, Eq)]
@@ -205,7 +200,7 @@ fn path_in(linked: bool, words: &[String]) -> Option<&str>
     match words {
         [path] => if_path(path.as_str()),
         [path, links] => {
-            if linked && is_path(links.as_bytes()) {
+            if linked && is_operand(links.as_bytes()) {
                 if_path(path.as_str())
             } else {
                 None
@@ -225,20 +220,11 @@ fn links_in(words: &[String]) -> Option<&str>
 }
 
 fn if_path(path: &str) -> Option<&str>
-    ensures { option_map (λ path. path.now) result ≡ (if is_path path.now then Some path.now else None) }
+    ensures { option_map (λ path. path.now) result ≡ (if is_operand path.now then Some path.now else None) }
 {
-    if is_path(path.as_bytes()) {
+    if is_operand(path.as_bytes()) {
         Some(path)
     } else {
         None
-    }
-}
-
-fn is_path(word: &[u8]) -> bool
-    ensures { result ≡ is_path word.now }
-{
-    match word {
-        [] => false,
-        [first, ..] => *first != b'-',
     }
 }

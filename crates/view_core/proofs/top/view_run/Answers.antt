@@ -1,6 +1,6 @@
 use Rattle.std.proofs.Common.{map, string_bytes}
 use Rattle.job_core.proofs.EndingLemmas.{ends}
-use Rattle.view_core.specs.Lines.{usage_text}
+use Rattle.view_words.specs.Usage.{usage_text}
 use Rattle.view_core.specs.Views.{Does, IsAccepted}
 use Rattle.view_core.proofs.Asked.{accepted_may_stop}
 use Rattle.view_core.proofs.top.view_run.Goals as goal
