@@ -1,0 +1,6 @@
+mod Steps
+mod Accepted
+mod CaseLemmas
+mod Telling
+mod LineLemmas
+mod Naming

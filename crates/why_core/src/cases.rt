@@ -1,0 +1,104 @@
+//! The groups of a report, each with its ingress.
+
+ghost use Rattle.std.specs.Prelude.{◌≡◌, ◌++◌, IfOk, OnOk, map};
+ghost use Rattle.why_core.specs.Cases.{AreGroups, case_in, cases, cases_at, explained, in_ranks, of_rank, rank_of};
+
+use net_types::{NoMemory, Place, Section};
+use report_groups::{Change, Entry, group_rows};
+use std::alloc::Global;
+
+/// A group of a section, and the section's ingress by its numbers in the networks.
+#[derive(Clone, Copy)]
+pub struct CaseRef<'a> {
+    pub section: &'a Section,
+    pub place: Place,
+    pub entry: &'a Entry,
+}
+
+/// The groups of each section.
+pub(crate) fn groups_of(alloc: Global, sections: &[Section]) -> Result<Vec<Vec<Entry>>, NoMemory>
+    ensures { IfOk result (λ groups. AreGroups sections.now (map (λ entries. entries.items) groups.items)) }
+{
+    let mut groups = Vec::new(alloc);
+    for section in sections {
+        groups.push(group_rows(alloc, section.rows.as_slice())?)?;
+    }
+    Ok(groups)
+}
+
+/// All groups in the order of the report, those of one ingress by what is looked at first.
+pub(crate) fn cases_of<'a>(
+    alloc: Global,
+    sections: &'a [Section],
+    ingress: &[Place],
+    groups: &'a [Vec<Entry>],
+) -> Result<Vec<CaseRef<'a>>, NoMemory>
+    ensures { IfOk result (λ found. map case_in found.items ≡ cases sections.now ingress.now (map (λ entries. entries.items) groups.now)) }
+{
+    let mut found = Vec::new(alloc);
+    let count = sections.len().min(ingress.len()).min(groups.len());
+    for i in 0..count {
+        add_ranks(&mut found, &sections[i], ingress[i], &groups[i])?;
+    }
+    Ok(found)
+}
+
+// Adds the groups of a section.
+fn add_ranks<'a>(
+    found: &mut Vec<CaseRef<'a>>,
+    section: &'a Section,
+    place: Place,
+    entries: &'a [Entry],
+) -> Result<(), NoMemory>
+    ensures { OnOk result (map case_in found.new.items ≡ map case_in found.old.items ++ cases_at section.now place (in_ranks entries.now)) }
+{
+    add_rank(found, section, place, entries, 0)?;
+    add_rank(found, section, place, entries, 1)?;
+    add_rank(found, section, place, entries, 2)?;
+    add_rank(found, section, place, entries, 3)?;
+    add_rank(found, section, place, entries, 4)
+}
+
+fn add_rank<'a>(
+    found: &mut Vec<CaseRef<'a>>,
+    section: &'a Section,
+    place: Place,
+    entries: &'a [Entry],
+    rank: u32,
+) -> Result<(), NoMemory>
+    ensures { OnOk result (map case_in found.new.items ≡ map case_in found.old.items ++ cases_at section.now place (of_rank entries.now rank)) }
+{
+    for entry in entries {
+        if rank_of(entry.change) == rank {
+            found.push(CaseRef {
+                section,
+                place,
+                entry,
+            })?;
+        }
+    }
+    Ok(())
+}
+
+fn rank_of(change: Change) -> u32
+    ensures { result ≡ rank_of change }
+{
+    match change {
+        Change::Loops => 0,
+        Change::Closes => 1,
+        Change::Opens => 2,
+        Change::Moves => 3,
+        Change::Translated => 4,
+    }
+}
+
+/// All groups, or the first hundred.
+pub(crate) fn explained<'a, 'b>(all: bool, cases: &'b [CaseRef<'a>]) -> &'b [CaseRef<'a>]
+    ensures { map case_in result.now ≡ explained all (map case_in cases.now) }
+{
+    if all || cases.len() <= 100 {
+        return cases;
+    }
+    let (first, _) = cases.split_at(100);
+    first
+}
