@@ -235,7 +235,7 @@ fn mode_in(section: &Section) -> Mode
 }
 
 /// The byte at which the first of the words begins.
-fn first_byte(words: &[Span]) -> usize
+pub(crate) fn first_byte(words: &[Span]) -> usize
     ensures { result ≡ first_byte words.now }
 {
     match words {

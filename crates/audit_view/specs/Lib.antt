@@ -1,0 +1,10 @@
+pub mod Lists
+pub mod Said
+pub mod Audited
+pub mod Differing
+pub mod Shown
+pub mod ShownText
+pub mod ShownJson
+pub mod ShownTable
+pub mod Words
+pub mod Views
