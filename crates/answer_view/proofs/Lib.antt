@@ -1,0 +1,7 @@
+pub mod SameLines
+pub mod TextLemmas
+pub mod Answers
+pub mod Paired
+pub mod PacketLemmas
+pub mod ReadingLemmas
+pub mod Asks

@@ -1,0 +1,12 @@
+pub mod Asked
+pub mod AnswerText
+pub mod Said
+pub mod Differing
+pub mod Answered
+pub mod Packet
+pub mod ShownText
+pub mod ShownJson
+pub mod ShownTable
+pub mod ShownCases
+pub mod Words
+pub mod Views
