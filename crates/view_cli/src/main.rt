@@ -6,7 +6,7 @@ use net_io::{RealFiles, RealSink};
 use std::io::ErrorKind;
 use std::process::ExitCode;
 use std::{env, io};
-use view_core::view_run;
+use view_tool::tool;
 
 // The words of the command line, without the program's name.
 fn words(rt: &HostRuntime) -> io::Result<Vec<String>> {
@@ -23,7 +23,7 @@ fn run_words(rt: HostRuntime, words: &[String]) -> u8 {
     let mut out = RealSink::new(rt.stdout());
     let mut err = RealSink::new(rt.stderr());
     let mut files = RealFiles::new(rt);
-    view_run(alloc, words, &mut files, &mut out, &mut err)
+    tool(alloc, words, &mut files, &mut out, &mut err)
 }
 
 fn main(rt: HostRuntime) -> ExitCode {
