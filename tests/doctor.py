@@ -1,6 +1,6 @@
 #!/usr/bin/env python3
-"""Tells `doctor` small networks, each with the lines that it must say of them, or that it must not. DIQENYU_DOCTOR names another program
-than the one that `./doctor` builds.
+"""Tells `doctor` small networks, each with the warnings that it must say of them, or that it must not, and with what stands behind these.
+DIQENYU_DOCTOR names another program than the one that `./doctor` builds.
 
 The last line is 'N passed, M failed'.
 """
@@ -24,6 +24,8 @@ interface Ethernet0
 interface Ethernet1
  ip address 10.0.2.1 255.255.255.0
 """
+R3 = "hostname R3\n"
+AGAIN = R1 + "ip cef\n"
 LINKS = "ingress R1 Ethernet0\np2p R1 Ethernet1 R2 Ethernet0\n"
 ONE = "ingress R1 Ethernet0\n"
 
@@ -50,12 +52,16 @@ def at(section, line):
     return {"net/R1.cfg": "".join(lines), "net/R2.cfg": R2, "links": LINKS}
 
 
+# One router with a side of translation on each interface, and a default outside.
+TRANSLATING = {"net/R1.cfg": R1.replace("255.255.255.0\n", "255.255.255.0\n ip nat inside\n").replace(
+    "255.255.255.252\n", "255.255.255.252\n ip nat outside\n") + "ip route 0.0.0.0 0.0.0.0 10.0.1.2\n", "links": ONE}
+
 # The paths that the doctor is told where a case says nothing else.
 NET = ["net", "links"]
 BOTH = ["old", "new", "links"]
 
-# Each case: its name, its files, the paths, and what a line must say, as a pattern from the line's beginning on; nothing where
-# nothing is to be said.
+# Each case: its name, its files, the words, and what the warnings must say, each as a pattern from the line's beginning on; nothing
+# where nothing is to be said.
 CLEAN = [
     ("two routers", net(), NET),
     ("two equal networks", two(), BOTH),
@@ -74,6 +80,12 @@ CLEAN = [
     ("a default that floats", alone("ip route 0.0.0.0 0.0.0.0 Ethernet1 10.0.1.2\nip route 0.0.0.0 0.0.0.0 10.0.0.9 200\n"), NET),
     ("translation with both sides", {"net/R1.cfg": R1.replace("255.255.255.0\n", "255.255.255.0\n ip nat inside\n").replace(
         "255.255.255.252\n", "255.255.255.252\n ip nat outside\n") + "ip nat inside source static 10.0.0.5 192.0.2.5\n", "links": ONE}, NET),
+    ("a hidden file", net() | {"net/.DS_Store": "\0", "net/.R1.cfg.swp": R1}, NET),
+    ("lines in another order", two(new_r1=R1 + "ntp server 10.9.9.9\nip cef\n", old_r1=R1 + "ip cef\nntp server 10.9.9.9\n"), BOTH),
+    ("a line twice in both folders", two(new_r1=AGAIN + "ip cef\n", old_r1=AGAIN + "ip cef\n"), BOTH),
+    ("translation of a host behind a router inside", {"net/R1.cfg": R1.replace("255.255.255.0\n", "255.255.255.0\n ip nat inside\n").replace(
+        "255.255.255.252\n", "255.255.255.252\n ip nat outside\n")
+        + "ip route 10.4.0.0 255.255.0.0 10.0.0.9\nip nat inside source static 10.4.0.5 192.0.2.5\n", "links": ONE}, NET),
     ("a route that follows another one", alone("ip route 10.7.0.0 255.255.0.0 10.0.1.2\nip route 10.8.0.0 255.255.0.0 10.7.1.1\n"), NET),
 ]
 TOLD = [
@@ -93,8 +105,30 @@ TOLD = [
     ("a line of the new folder alone", two(new_r1=R1 + "logging host 10.9.9.9\n"), BOTH, [r"new/R1\.cfg:6: .*logging host 10\.9\.9\.9$"]),
     ("a line of the old folder alone", two(old_r2=R2 + "ntp server 10.9.9.9\n"), BOTH, [r"old/R2\.cfg:6: .*ntp server 10\.9\.9\.9$"]),
     ("the last of several lines", alone("ip cef\nno ip http server\nip rou 10.7.0.0 255.255.0.0 Null0\n"), NET, [r"net/R1\.cfg:8: .*ip rou"]),
-    ("an empty folder", {"net/": "", "links": ONE}, NET, [r"net: no file"]),
-    ("a folder of other names", {"net/R1.txt": R1, "links": ONE}, NET, [r"net: no file"]),
+    ("a second copy of a line in the new folder", two(new_r1=AGAIN + "ip cef\n", old_r1=AGAIN), BOTH,
+     [r"new/R1\.cfg:7: passed over, only in this folder: ip cef$"]),
+    ("a second copy of a line in the old folder", two(new_r1=AGAIN, old_r1=AGAIN + "ip cef\n"), BOTH,
+     [r"old/R1\.cfg:7: passed over, only in this folder: ip cef$"]),
+    ("two more copies of a line, and one in another section", two(
+        new_r1=AGAIN + "ip cef\ninterface Ethernet0\n ip cef\nip cef\n", old_r1=AGAIN), BOTH,
+     [r"new/R1\.cfg:7: passed over, only in this folder: ip cef$", r"new/R1\.cfg:9: passed over, only in this folder: ip cef$",
+      r"new/R1\.cfg:10: passed over, only in this folder: ip cef$"]),
+    # ---- files
+    ("an empty folder", {"net/": "", "links": ONE}, NET, [r"net: no file whose name ends in \.cfg$"]),
+    ("a folder of other names", {"net/R1.txt": R1, "links": ONE}, NET,
+     [r"net: no file whose name ends in \.cfg$", r"net/R1\.txt: not read, since its name doesn't end in \.cfg$"]),
+    ("a file of another name", net() | {"net/R3.conf": R1, "net/README": "R3\n"}, NET,
+     [r"net/R3\.conf: not read, since its name doesn't end in \.cfg$", r"net/README: not read, since its name doesn't end in \.cfg$"]),
+    ("a file of another name in the new folder", two() | {"new/R2.cfg.orig": R2}, BOTH,
+     [r"new/R2\.cfg\.orig: not read, since its name doesn't end in \.cfg$"]),
+    ("a device of the old folder alone", two() | {"old/R3.cfg": R3}, BOTH, [r"old/R3\.cfg: the other folder has no file of this name$"]),
+    ("a device of the new folder alone", two() | {"new/R3.cfg": R3}, BOTH, [r"new/R3\.cfg: the other folder has no file of this name$"]),
+    ("a file that was renamed", two() | {"old/R3.cfg": R3, "new/R3-new.cfg": R3}, BOTH,
+     [r"old/R3\.cfg: the other folder has no file of this name$", r"new/R3-new\.cfg: the other folder has no file of this name$"]),
+    ("two files of one hostname", net() | {"net/R1-copy.cfg": "hostname R1\n"}, NET, [r"net/R1\.cfg: refused hostname taken by net/R1-copy\.cfg$"]),
+    ("three files of one hostname in the new folder", two() | {"new/R9.cfg": "hostname R1\n", "old/R9.cfg": R3, "old/R8.cfg": "hostname R8\n",
+                                                               "new/R8.cfg": "hostname R1\n"}, BOTH,
+     [r"new/R8\.cfg: refused hostname taken by new/R1\.cfg$", r"new/R9\.cfg: refused hostname taken by new/R1\.cfg$"]),
     # ---- refusals
     ("a command that isn't covered", alone("router ospf 1\n"), NET, [r"net/R1\.cfg:6: refused NotCovered router: router ospf 1$"]),
     ("an address that is none", at(0, " ip address 10.0.0.256 255.255.255.0 secondary"), NET, [r"net/R1\.cfg:4: refused BadWord 10\.0\.0\.256"]),
@@ -155,8 +189,65 @@ TOLD = [
      [r"net/R1\.cfg: .*0\.0\.0\.0.*10\.0\.1\.2"]),
     ("translation without an outside", {"net/R1.cfg": R1.replace("255.255.255.0\n", "255.255.255.0\n ip nat inside\n")
                                         + "ip nat inside source static 10.0.0.5 192.0.2.5\n", "links": ONE}, NET, [r"net/R1\.cfg: .*outside"]),
+    ("a host inside that no interface inside faces", TRANSLATING | {"net/R1.cfg": TRANSLATING["net/R1.cfg"]
+                                                                    + "ip nat inside source static tcp 10.4.0.5 80 192.0.2.5 80\n"
+                                                                    + "ip nat inside source static tcp 10.4.0.5 443 192.0.2.5 443\n"}, NET,
+     [r"net/R1\.cfg: address translation of 10\.4\.0\.5, to which no route leads out of an interface inside$"]),
+    ("a host outside that no interface outside faces", TRANSLATING | {"net/R1.cfg": TRANSLATING["net/R1.cfg"]
+                                                                      + "ip nat outside source static 10.0.0.9 10.77.0.9\n"}, NET,
+     [r"net/R1\.cfg: address translation of 10\.0\.0\.9, to which no route leads out of an interface outside$"]),
     ("translation without an inside", {"net/R1.cfg": R1.replace("255.255.255.0\n", "255.255.255.0\n ip nat outside\n")
                                        + "ip nat inside source static 10.0.0.5 192.0.2.5\n", "links": ONE}, NET, [r"net/R1\.cfg: .*inside"]),
+]
+LISTED = """ip cef
+no ip http server
+interface Ethernet0
+ description users
+ip cef
+no ip domain lookup
+banner motd #
+no ip cef
+#
+ip domain name example.net
+"""
+# What stands between the warnings and the last line.
+BEHIND = [
+    ("two links of which one is on Ethernet", net(
+        R1 + "router ospf 1\n", R2 + "interface Serial0\n ip address 10.0.3.1 255.255.255.252\n",
+        LINKS + "p2p R1 Serial0 R2 Serial0\n"), NET,
+     ["limit: router ospf (1), first net/R1.cfg:6: refused; prepare brings it into what is read; GUIDE.md, section 15"]),
+    ("links on Ethernet", net(R1 + "ip rou 10.9.0.0 255.255.0.0 Null0\n"), NET,
+     ["limit: p2p on Ethernet (1), first links:2: a packet to an unused address of the subnet, as its first one, goes to and fro until it "
+      "expires; GUIDE.md, section 7"]),
+    ("a link on Ethernet of 31 bits", net(R1.replace("10.0.1.1 255.255.255.252", "10.0.1.2 255.255.255.254") + "ip rou a\n",
+                                          R2.replace("10.0.1.2 255.255.255.252", "10.0.1.3 255.255.255.254")), NET, []),
+    ("a serial link", net((R1 + "ip rou a\n").replace("Ethernet1", "Serial0"), R2.replace("Ethernet0", "Serial0"),
+                          "ingress R1 Ethernet0\np2p R1 Serial0 R2 Serial0\n"), NET, []),
+    ("a lan", net(R1 + "ip rou a\n", R2, LINKS.replace("p2p", "lan")), NET, []),
+    ("links on Ethernet of the new table alone", two(new_r1=R1 + "ip cef\n") | {
+        "links": LINKS.replace("p2p", "lan"), "newlinks": LINKS}, BOTH + ["newlinks"],
+     ["limit: p2p on Ethernet (1), first newlinks:2: a packet to an unused address of the subnet, as its first one, goes to and fro until it "
+      "expires; GUIDE.md, section 7"]),
+    ("what is refused, by how often", two(
+        new_r1=R1 + " standby 1 ip 10.0.1.3\n", old_r1=R1 + "ip nat pool A 192.0.2.1 192.0.2.2 prefix-length 30\n",
+        old_r2=R2 + " standby 7 ip 10.0.2.9\n"), BOTH,
+     ["limit: standby (2), first old/R2.cfg:6: refused; prepare brings it into what is read; GUIDE.md, section 15",
+      "limit: ip nat .. pool (1), first old/R1.cfg:6: refused, since it isn't in the model; GUIDE.md, section 14"]),
+    ("no limit of what is wrong", net(R1 + "hostname R1 R2\n"), NET, []),
+    ("no limits without a warning", net(), NET, []),
+    ("limits without a warning, where all is asked for", net(), ["--all"] + NET,
+     ["limit: p2p on Ethernet (1), first links:2: a packet to an unused address of the subnet, as its first one, goes to and fro until it "
+      "expires; GUIDE.md, section 7"]),
+    ("all lines that are passed over", alone(LISTED), ["--all"] + NET,
+     ["passed over: banner (3), first net/R1.cfg:12", "passed over: ip cef (2), first net/R1.cfg:6", "passed over: no ip http (1), first net/R1.cfg:7",
+      "passed over: description (1), first net/R1.cfg:9", "passed over: no ip domain (1), first net/R1.cfg:11",
+      "passed over: ip domain (1), first net/R1.cfg:15", "net/R1.cfg:6: passed over: ip cef", "net/R1.cfg:7: passed over: no ip http server",
+      "net/R1.cfg:9: passed over: description users", "net/R1.cfg:10: passed over: ip cef", "net/R1.cfg:11: passed over: no ip domain lookup",
+      "net/R1.cfg:12: passed over: banner motd #", "net/R1.cfg:13: passed over: no ip cef", "net/R1.cfg:14: passed over: #",
+      "net/R1.cfg:15: passed over: ip domain name example.net"]),
+    ("all lines of both folders", two(new_r1=AGAIN, old_r1=AGAIN + "ntp server 10.9.9.9\n", links=LINKS.replace("p2p", "lan")), ["--all"] + BOTH,
+     ["passed over: ip cef (2), first old/R1.cfg:6", "passed over: ntp (1), first old/R1.cfg:7", "old/R1.cfg:6: passed over: ip cef",
+      "old/R1.cfg:7: passed over: ntp server 10.9.9.9", "new/R1.cfg:6: passed over: ip cef"]),
 ]
 # The examples, each with all that is to be said of it. On the campus it is a line of the change that isn't about forwarding.
 EXAMPLES = [("campus", [r"examples/campus/new/DC1\.cfg:17: .*description new servers$"]), ("edge-list", []), ("two-long-lists", [])]
@@ -178,43 +269,51 @@ def write_files(files, folder):
                 stream.write(text)
 
 
-def examine(paths, folder):
-    """The status and the lines."""
-    done = subprocess.run(program() + paths, cwd=folder, stdin=subprocess.DEVNULL, stdout=subprocess.PIPE, stderr=subprocess.PIPE)
-    return done.returncode, done.stdout.decode("latin-1").splitlines() + done.stderr.decode("latin-1").splitlines()
+def examine(words, folder):
+    """The status, the warnings, and what stands between them and the last line, which counts them; nothing where it doesn't."""
+    done = subprocess.run(program() + words, cwd=folder, stdin=subprocess.DEVNULL, stdout=subprocess.PIPE, stderr=subprocess.PIPE)
+    lines = done.stdout.decode("latin-1").splitlines() + done.stderr.decode("latin-1").splitlines()
+    last = re.fullmatch("warnings ([0-9]+)", lines[-1]) if lines else None
+    if last is None or int(last.group(1)) >= len(lines):
+        return done.returncode, lines, None
+    return done.returncode, lines[:int(last.group(1))], lines[int(last.group(1)):-1]
 
 
-def is_right(wanted, status, lines):
-    """Whether these lines are among those that are said, or none is where none is wanted; the last one counts the others."""
-    if lines[-1:] != ["warnings %d" % (len(lines) - 1)] or status != (1 if lines[1:] else 0):
+def is_right(wanted, status, warnings, behind):
+    """Whether these warnings are among those that are said, or none is where none is wanted. Behind them stand limits alone, where
+    there is a warning, and else nothing."""
+    if behind is None or status != (1 if warnings else 0):
         return False
     if not wanted:
-        return len(lines) == 1
-    return all(any(re.match(pattern, line) for line in lines[:-1]) for pattern in wanted)
+        return not warnings and not behind
+    return all(any(re.match(pattern, line) for line in warnings) for pattern in wanted) and all(line.startswith("limit: ") for line in behind)
+
+
+def answers(scratch):
+    """Each case with what is wanted, what was said, and whether it is right."""
+    cases = [(name, files, words, []) for name, files, words in CLEAN] + TOLD + BEHIND
+    for number, (name, files, words, wanted) in enumerate(cases):
+        folder = os.path.join(scratch, str(number))
+        write_files(files, folder)
+        status, warnings, behind = examine(words, folder)
+        right = behind == wanted if number >= len(CLEAN) + len(TOLD) else is_right(wanted, status, warnings, behind)
+        yield name, wanted, right, [str(status)] + warnings + (behind or [])
+    for example, wanted in EXAMPLES:
+        here = os.path.join("examples", example)
+        status, warnings, behind = examine([os.path.join(here, name) for name in ("old", "new", "links")], TOP)
+        yield here, wanted, is_right(wanted, status, warnings, behind) and len(warnings) == len(wanted), [str(status)] + warnings + (behind or [])
 
 
 def main():
     """Tries all cases; the status is 0 where all are right."""
     passed = failed = 0
-    cases = [(name, files, paths, []) for name, files, paths in CLEAN] + TOLD
     with tempfile.TemporaryDirectory() as scratch:
-        for number, (name, files, paths, wanted) in enumerate(cases):
-            folder = os.path.join(scratch, str(number))
-            write_files(files, folder)
-            status, lines = examine(paths, folder)
-            if is_right(wanted, status, lines):
+        for name, wanted, right, said in answers(scratch):
+            if right:
                 passed += 1
             else:
                 failed += 1
-                print("FAILED %s: wanted %s, status %d" % (name, " and ".join(wanted) or "nothing", status), *lines, sep="\n  ")
-    for example, wanted in EXAMPLES:
-        here = os.path.join("examples", example)
-        status, lines = examine([os.path.join(here, name) for name in ("old", "new", "links")], TOP)
-        if is_right(wanted, status, lines) and len(lines) == len(wanted) + 1:
-            passed += 1
-        else:
-            failed += 1
-            print("FAILED %s: wanted %s, status %d" % (here, " and ".join(wanted) or "nothing", status), *lines, sep="\n  ")
+                print("FAILED %s: wanted %s; status and lines:" % (name, " and ".join(wanted) or "nothing"), *said, sep="\n  ")
     print("%d passed, %d failed" % (passed, failed))
     return 1 if failed else 0
 

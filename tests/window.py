@@ -65,9 +65,9 @@ class Windows(unittest.TestCase):
         """Puts a script in the place of a program."""
         self.environment["DIQENYU_" + name.upper()] = write(os.path.join(self.scratch, "programs", name), "#!/bin/bash\n" + script, 0o755)
 
-    def doctor_says(self, warnings):
-        """The stand-in for the doctor has these warnings."""
-        said = write(os.path.join(self.scratch, "said"), "".join(line + "\n" for line in warnings) + "warnings %d\n" % len(warnings))
+    def doctor_says(self, warnings, limits=()):
+        """The stand-in for the doctor has these warnings, and tells these limits of the model besides."""
+        said = write(os.path.join(self.scratch, "said"), "".join(line + "\n" for line in [*warnings, *limits]) + "warnings %d\n" % len(warnings))
         self.stand_in("doctor", "cat %s; exit %d\n" % (said, bool(warnings)))
 
     def window(self, *words):
@@ -102,6 +102,13 @@ class Windows(unittest.TestCase):
         self.assertEqual(output.splitlines()[1:4], ["warnings: 7, all by ./doctor " + " ".join(CAMPUS), "  warning 1", "  warning 2"])
         self.assertLessEqual(len(output.splitlines()), 10)
 
+    def test_limits(self):
+        limit = "limit: p2p on Ethernet (2), first links:1: a packet goes to and fro"
+        self.doctor_says(["links:3: R9 isn't there"], [limit])
+        status, output, errors = self.window(CAMPUS[0], CAMPUS[0], CAMPUS[2])
+        self.assertEqual((output.splitlines()[1:4], status), (["warnings: 1", "  links:3: R9 isn't there",
+                                                               "packets: nothing changes at any of 4 ingresses"], 1), errors)
+
     def test_many_ingresses(self):
         report = "".join("ingress R%d E0 rows 1\ndst * src * proto * dport * sport * flags *\nold drop\nnew exit R1 E1\n" % number
                          for number in range(1, 6)) + "affected 5\n"
@@ -130,11 +137,11 @@ class Windows(unittest.TestCase):
 
     def test_refused(self):
         write(os.path.join(self.scratch, "new", "R1.cfg"), "hostname R1\nrouter ospf 1\n")
-        self.doctor_says(["%s/new/R1.cfg:2: refused NotCovered router" % self.scratch])
+        told = ["%s/new/R1.cfg:2: refused NotCovered router" % self.scratch, "limit: router ospf (1)"]
+        self.doctor_says(told[:1], told[1:])
         status, output, errors = self.window(CAMPUS[0], self.scratch + "/new", CAMPUS[2], "--page", self.page)
         self.assertEqual((status, output), (3, ""))
-        self.assertEqual(errors.splitlines()[-2:], ["%s/new/R1.cfg:2: refused NotCovered router" % self.scratch,
-                                                    "refused %s/new/R1.cfg line 2 NotCovered router" % self.scratch])
+        self.assertEqual(errors.splitlines()[-3:], told + ["refused %s/new/R1.cfg line 2 NotCovered router" % self.scratch])
         self.assertFalse(os.path.exists(self.page))
 
     def test_questions_that_are_refused(self):
@@ -160,7 +167,7 @@ class Windows(unittest.TestCase):
         self.assertTrue(output.encode().startswith(USAGE))
         status, output, errors = self.window("--version")
         self.assertEqual((status, errors), (0, ""))
-        self.assertRegex(output, r"\Awindow [0-9a-f]{12}\n\Z")
+        self.assertEqual(output, "window of Diqenyu, schema 1\n")
 
     def test_interrupted(self):
         begun = os.path.join(self.scratch, "begun")

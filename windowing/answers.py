@@ -17,9 +17,11 @@ def lines_of(path):
         return stream.read().split("\n")[:-1]
 
 
-def warnings_of(path):
-    """The warnings of the doctor: all lines but the last, which counts them."""
-    return lines_of(path)[:-1]
+def notes_of(path):
+    """The doctor's warnings, of which the last line says how many there are, and what it tells besides them."""
+    lines = lines_of(path)
+    count = int(lines[-1].split(" ")[1])
+    return lines[:count], lines[count:-1]
 
 
 def rows_of(path):

@@ -1,6 +1,5 @@
 #!/usr/bin/env python3
 """Looks at a change window as a whole: what was not read, what changes, and which questions fail afterwards. docs/GUIDE.md tells how."""
-import hashlib
 import os
 import signal
 import sys
@@ -9,8 +8,11 @@ import traceback
 
 import answers
 import telling
-from programs import TOP, Stop, run
+from programs import Stop, run
 from words import USAGE, Usage, read_words
+
+# Which program it is.
+VERSION = "window of Diqenyu, schema 1"
 
 
 class Window:
@@ -25,18 +27,19 @@ class Window:
         return os.path.join(self.folder, name)
 
     def examine(self):
-        """The doctor's warnings. What it warns of may stop the comparison: then all of it is told before the line of that."""
+        """The doctor's warnings, and the limits of the model that it tells. What it warns of may stop the comparison: then all of it
+        is told before the line of that."""
         words = self.words
-        run("doctor", [words.old, words.new] + words.tables(), self.path("warnings"))
-        return answers.warnings_of(self.path("warnings"))
+        run("doctor", [words.old, words.new] + words.tables(), self.path("notes"))
+        return answers.notes_of(self.path("notes"))
 
-    def compare(self, warnings):
+    def compare(self, notes):
         """How many rows the report has at each ingress, and what becomes of the packets there."""
         words = self.words
         try:
             run("review", ["compare", words.old, words.new] + words.tables(), self.path("report"))
         except Stop as stop:
-            raise Stop(stop.status, b"".join(line.encode("utf-8", "surrogateescape") + b"\n" for line in warnings) + stop.told) from None
+            raise Stop(stop.status, b"".join(line.encode("utf-8", "surrogateescape") + b"\n" for line in notes) + stop.told) from None
         run("view", [self.path("report")], self.path("shown"))
         return answers.rows_of(self.path("report")), answers.kinds_of(self.path("shown"))
 
@@ -94,8 +97,8 @@ def look(words):
     """Does what the words say; gives the status."""
     with tempfile.TemporaryDirectory(prefix="diqenyu-window-") as folder:
         window = Window(words, folder)
-        warnings = window.examine()
-        rows, kinds = window.compare(warnings)
+        warnings, limits = window.examine()
+        rows, kinds = window.compare(warnings + limits)
         questions, before, after = window.ask()
         page = window.draw() if words.page else None
     lines = [telling.title_line(words)] + telling.warning_lines(words, warnings)
@@ -104,23 +107,6 @@ def look(words):
         write_page(words.page, page)
     tell(lines)
     return 1 if warnings or any(rows.values()) or after else 0
-
-
-def version_line():
-    """The release that this stands in, else the sum of the sources of this script and its parts."""
-    try:
-        with open(os.path.join(TOP, "RELEASE"), encoding="utf-8") as stream:
-            for line in stream:
-                if line.startswith("Sources "):
-                    return "window " + line.split()[1]
-    except OSError:
-        pass
-    here, digest = os.path.dirname(os.path.abspath(__file__)), hashlib.sha256()
-    for name in sorted(os.listdir(here)):
-        if name.endswith(".py"):
-            with open(os.path.join(here, name), "rb") as stream:
-                digest.update(stream.read())
-    return "window " + digest.hexdigest()[:12]
 
 
 def end(*_):
@@ -134,7 +120,7 @@ def answer(words):
         tell(USAGE.splitlines())
         return 0
     if words == ["--version"]:
-        tell([version_line()])
+        tell([VERSION])
         return 0
     return look(read_words(words))
 

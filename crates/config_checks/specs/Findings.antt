@@ -1,7 +1,7 @@
 -- What is odd in a configuration, as a whole list: first of each interface, then of each access list, then of its entries,
 -- then of each written route, then of address translation. The rules of what becomes of a packet are those of access lists,
 -- static routes and static translation (IOS); what is odd is this product's choice.
-use Rattle.std.specs.Prelude.{ℕ, zero, suc, Bool, false, true, not, ◌&&◌, ◌||◌, ◌==◌, List, [], ◌∷◌, ◌++◌, flat_map, length, Option, Some, None, nat_lt, if◌then◌else◌}
+use Rattle.std.specs.Prelude.{ℕ, zero, suc, Bool, false, true, not, ◌&&◌, ◌||◌, ◌==◌, List, [], ◌∷◌, ◌++◌, filter, flat_map, fold, map, length, Option, Some, None, is_some, nat_eq, nat_lt, if◌then◌else◌}
 use Rattle.std.specs.List.{list_any}
 use Rattle.std.specs.Str.{bytes_eq}
 use Rattle.ios_words.specs.Words.{mask_length_of}
@@ -10,10 +10,14 @@ use Rattle.net_types.specs.declared.config.Config.{Config}
 use Rattle.net_types.specs.declared.config.Entry.{Entry}
 use Rattle.net_types.specs.declared.config.Interface.{Interface}
 use Rattle.net_types.specs.declared.config.Masked.{Masked}
+use Rattle.net_types.specs.declared.config.NatKind.{NatKind}
+use Rattle.net_types.specs.declared.config.NatKind.TheVariants as kind
+use Rattle.net_types.specs.declared.config.NatRule.{NatRule}
 use Rattle.net_types.specs.declared.config.Route.{Route}
 use Rattle.net_types.specs.declared.config.RouteExit.{RouteExit}
 use Rattle.net_types.specs.declared.config.RouteExit.TheVariants as exit
 use Rattle.net_types.specs.declared.config.Side.{Side}
+use Rattle.net_types.specs.declared.config.Side.TheVariants.{Neither, Inside, Outside}
 use Rattle.net_types.specs.Moves.{list_named, is_inside, is_outside}
 use Rattle.net_types.specs.Routes.{same_text, same_prefix, holds, route_holds, live_subnets, is_enabled, is_own, interface_named, installed}
 use Rattle.config_checks.specs.declared.finding.AddressField.{AddressField}
@@ -142,14 +146,83 @@ route_findings c found r = exit_findings c found r r.exit
 
 -- ---- address translation
 
--- an IP-enabled interface is on the side
-abbrev pub has_side : (Side → Bool) → Config → Bool
-has_side is_side c = list_any (λ i. is_side i.side && is_enabled i) c.interfaces
+abbrev pub is_at : Side → Side → Bool
+is_at Neither s = false
+is_at Inside s = is_inside s
+is_at Outside s = is_outside s
+
+-- the interface is on the side, and IP-enabled
+abbrev pub is_on : Side → Interface → Bool
+is_on side i = is_at side i.side && is_enabled i
+
+abbrev pub has_side : Side → Config → Bool
+has_side side c = list_any (is_on side) c.interfaces
+
+abbrev pub is_on_if_any : Side → Option Interface → Bool
+is_on_if_any side None = false
+is_on_if_any side (Some i) = is_on side i
+
+-- an interface that isn't on the side has a subnet that holds the address
+abbrev pub is_aside : Side → ℕ → Interface → Bool
+is_aside side a i = not (is_on side i) && list_any (λ s. holds s a) (live_subnets i)
+
+-- a route leads out of an interface of the side; by a next hop alone it does unless that lies in a subnet of another interface
+abbrev pub leads_out : Side → Config → RouteExit → Bool
+leads_out side c exit.Null = false
+leads_out side c (exit.Port name) = is_on_if_any side (interface_named c name)
+leads_out side c (exit.Both name next) = is_on_if_any side (interface_named c name)
+leads_out side c (exit.Next next) = not (list_any (is_aside side next) c.interfaces)
+
+abbrev pub is_out : Side → Config → Route → Bool
+is_out side c r = leads_out side c r.exit
+
+abbrev pub is_same : Option ℕ → Option ℕ → Bool
+is_same None o = false
+is_same (Some m) None = false
+is_same (Some m) (Some n) = m == n
+
+-- no interface of the side faces the address: none of the routes in which it is looked up leads out of one
+abbrev pub is_turned : Side → Config → ℕ → Bool
+is_turned side c a = not (is_same (longest (installed c) a) (longest (filter (is_out side c) (installed c)) a))
+
+-- the address of the host that a rule is for: inside, or outside
+abbrev pub local_by : NatRule → NatKind → Option ℕ
+local_by r kind.Plain = Some r.local
+local_by r kind.Tcp = Some r.local
+local_by r kind.Udp = Some r.local
+local_by r kind.Outer = None
+
+abbrev pub global_by : NatRule → NatKind → Option ℕ
+global_by r kind.Outer = Some r.global
+global_by r _ = None
+
+abbrev pub host_of : Side → NatRule → Option ℕ
+host_of Neither r = None
+host_of Inside r = local_by r r.kind
+host_of Outside r = global_by r r.kind
+
+abbrev pub once : List ℕ → Option ℕ → List ℕ
+once xs None = xs
+once xs (Some x) = if list_any (nat_eq x) xs then xs else xs ++ x ∷ []
+
+-- those of all rules, each once
+abbrev pub hosts : Side → Config → List ℕ
+hosts side c = fold (λ xs r. once xs (host_of side r)) [] c.nat
+
+-- those that no interface of the side faces, where there is one
+abbrev pub turned : Side → Config → List ℕ
+turned side c = if has_side side c then filter (is_turned side c) (hosts side c) else []
+
+-- a side without an interface, and the hosts that no interface of their side faces
+abbrev pub side_findings : Config → List ConfigFinding
+side_findings c =
+    told (not (has_side Inside c)) finding.NoInside
+    ++ told (not (has_side Outside c)) finding.NoOutside
+    ++ map finding.NotInside (turned Inside c)
+    ++ map finding.NotOutside (turned Outside c)
 
 abbrev pub translation_findings : Config → List ConfigFinding
-translation_findings c =
-    if length c.nat == 0 then []
-    else told (not (has_side is_inside c)) finding.NoInside ++ told (not (has_side is_outside c)) finding.NoOutside
+translation_findings c = if length c.nat == 0 then [] else side_findings c
 
 -- ---- all together; elsewhere are the names of lists that stand in commands which aren't in a configuration's value
 

@@ -38,7 +38,7 @@ pub fn config_findings(
     check_uses(alloc, config, elsewhere, &mut found)?;
     check_entries(alloc, config, &mut found)?;
     check_routes(alloc, config, &mut found)?;
-    check_translation(config, &mut found)?;
+    check_translation(alloc, config, &mut found)?;
     Ok(found)
 }
 

@@ -1,3 +1,5 @@
+//! Findings about the configuration of one router: about its lists, its next hops and its translation.
+
 use net_types::{Masked, Subnet, Text};
 
 /// The packets of an interface that a list is tried against.
@@ -82,4 +84,13 @@ pub enum ConfigFinding {
     NoInside,
     /// There are rules of translation, and no IP-enabled interface is outside: no packet is translated.
     NoOutside,
+    /// The address of a host inside is translated, and no route leads to it out of an interface inside: what it sends doesn't
+    /// arrive there.
+    NotInside {
+        local: u32,
+    },
+    /// The address of a host outside is translated, and no route leads to it out of an interface outside.
+    NotOutside {
+        global: u32,
+    },
 }

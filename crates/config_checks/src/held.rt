@@ -31,7 +31,17 @@ impl Held {
         Ok(held)
     }
 
-    fn add(&mut self, route: &Route) -> Result<(), NoMemory>
+    /// No prefixes.
+    pub fn none(alloc: Global) -> Held
+        ensures { AreOf result [] }
+    {
+        Held {
+            numbers: HashSet::new(alloc),
+        }
+    }
+
+    /// Adds the prefix of a route.
+    pub fn add(&mut self, route: &Route) -> Result<(), NoMemory>
         ensures { OnOk result ((routes : List Route) → AreOf self.old routes → AreOf self.new (routes ++ route.now ∷ [])) }
     {
         let length = route.prefix.length;

@@ -186,7 +186,7 @@ fn any_holds(subnets: &[Subnet], address: u32) -> bool
 }
 
 /// Whether a subnet of an interface holds the address, where the interface isn't shut.
-fn has_subnet_of(interface: &Interface, address: u32) -> bool
+pub fn has_subnet_of(interface: &Interface, address: u32) -> bool
     ensures { result ≡ list_any (λ s. holds s address) (live_subnets interface.now) }
 {
     if interface.shut {

@@ -15,7 +15,7 @@ use Rattle.job_core.specs.Causes.{FaultRose, HasCause, WasRead}
 use Rattle.job_core.specs.Steps.{GivesBytes, OrNoMemory}
 use Rattle.job_core.proofs.AcceptedLemmas.{then_may_stop, file_may_stop, bytes_are}
 use Rattle.doctor_core.specs.Accepted.{AcceptedBy, AcceptedPaths, AcceptedTexts, IfAsked, IsAccepted}
-use Rattle.doctor_core.specs.Folders.{AreGiven, GivesAll, GivesFile, GivesFiles, GivesFrom, GivesNames, GivesTextAt, GivesTexts, IsFile, IsFolder, NoNames, total}
+use Rattle.doctor_core.specs.Folders.{AreGiven, GivesAll, GivesFile, GivesFiles, GivesFrom, GivesNames, GivesOthers, GivesTextAt, GivesTexts, GivesWith, IsFile, IsFolder, NoNames, Unlisted, total}
 use Rattle.doctor_core.specs.Job.{Does, DoesBy, IsLook, IsTold, Looks, LooksBehind, LooksOver, LooksWith, subject_of, with_links}
 use Rattle.doctor_core.specs.Words.{Paths, paths_of, text_of}
 use Rattle.doctor_core.proofs.FileSteps.{total_more}
@@ -101,18 +101,37 @@ all_stop t folder files s (inr (names, g, given)) h =
     (λ r k. names_stop t folder names r g k)
     (λ ns k more. from_stops t folder names [] [] files s refl given (subst (λ (x : List (List ℕ)). GivesFrom t folder [] x (Err s)) (names_once t folder ns names k.1 g.1) more)) h
 
-folder_stops : (folder : List ℕ) (files : List TextFile) (s : Stop) → IsFolder folder files (Err s) → MayAlwaysStop s
-folder_stops folder files stop.NoMemory h = tt
-folder_stops folder files (stop.CannotRead p) h = tt
-folder_stops folder files (stop.NotFound p) h = h
-folder_stops folder files (stop.TooLong p) h = h
-folder_stops folder files (stop.TooManyFiles p) h = h
-folder_stops folder files (stop.Refused p k w v) h = h
-folder_stops folder files (stop.HostnameTaken p q) h = h
+folder_stops : (folder : List ℕ) (files : List TextFile) (others : List (List ℕ)) (s : Stop) → IsFolder folder files others (Err s) → MayAlwaysStop s
+folder_stops folder files others stop.NoMemory h = tt
+folder_stops folder files others (stop.CannotRead p) h = tt
+folder_stops folder files others (stop.NotFound p) h = h
+folder_stops folder files others (stop.TooLong p) h = h
+folder_stops folder files others (stop.TooManyFiles p) h = h
+folder_stops folder files others (stop.Refused p k w v) h = h
+folder_stops folder files others (stop.HostnameTaken p q) h = h
+
+-- a folder whose files are given is there
+is_there : (t : Told) (folder : List ℕ) (files : List TextFile) → GivesAll t folder (Ok files) → has_folder t folder ≡ true
+is_there t folder files (inl (x, g, e)) = absurd (not_both files x e)
+is_there t folder files (inr (names, g, given)) = g.0
+
+others_stop : (t : Told) (folder : List ℕ) (s : Stop) → has_folder t folder ≡ true → Unlisted t folder s → MayAlwaysStop s
+others_stop t folder stop.NoMemory g h = tt
+others_stop t folder (stop.CannotRead p) g h = tt
+others_stop t folder (stop.NotFound p) g h = absurd (both (has_folder t folder) g h.1)
+others_stop t folder (stop.TooLong p) g h = h
+others_stop t folder (stop.TooManyFiles p) g h = h
+others_stop t folder (stop.Refused p k w v) g h = h
+others_stop t folder (stop.HostnameTaken p q) g h = h
+
+with_others_stop : (t : Told) (folder : List ℕ) (files : List TextFile) (s : Stop) → has_folder t folder ≡ true → GivesWith t folder files (Err s) → MayAlwaysStop s
+with_others_stop t folder files s there h =
+    then_may_stop (GivesOthers t folder) (IsFolder folder files) s (λ r k. others_stop t folder r there k) (λ others g k. folder_stops folder files others s k) h
 
 texts_stop : (t : Told) (folder : List ℕ) (a : AcceptedTexts t folder) (s : Stop) → GivesTexts t folder (Err s) → MayAlwaysStop s
 texts_stop t folder a s h =
-    then_may_stop (GivesAll t folder) (IsFolder folder) s (λ r k. all_stop t folder a.files r a.given k) (λ files g k. folder_stops folder files s k) h
+    then_may_stop (GivesAll t folder) (GivesWith t folder) s (λ r k. all_stop t folder a.files r a.given k)
+    (λ files g k. with_others_stop t folder files s (is_there t folder a.files a.given) k) h
 
 -- ---- the whole
 

@@ -1,8 +1,10 @@
 -- The texts of a folder's configurations, read, or why the job stops there.
-use Rattle.std.specs.Prelude.{◌≡◌, ℕ, ◌+◌, ◌<◌, ◌≤◌, true, false, List, [], ◌∷◌, ◌++◌, sum_by, Some, Result, Ok, Err, length}
-use Rattle.net_io.specs.Files.{Told, content, has_folder, path_in}
+use Rattle.std.specs.Prelude.{◌≡◌, ◌↔◌, ℕ, ◌+◌, ◌<◌, ◌≤◌, Bool, true, false, not, ◌&&◌, ◌==◌, List, [], ◌∷◌, ◌++◌, sum_by, Some, Result, Ok, Err, Contains, length}
+use Rattle.std.specs.List.Sorted.{IsStrictlySortedBy}
+use Rattle.net_io.specs.Files.{Told, content, has_folder, path_in, IsNameIn}
 use Rattle.net_load.specs.Limits.{files_limit, folder_limit}
-use Rattle.net_load.specs.Folder.{AreConfigNames}
+use Rattle.net_load.specs.Folder.{is_config_name, AreConfigNames}
+use Rattle.topo_links.specs.Names.{name_cmp}
 use Rattle.doctor_warnings.specs.declared.files.TextFile.{TextFile}
 use Rattle.doctor_warnings.specs.declared.network.Texts.{Texts}
 use Rattle.doctor_warnings.specs.declared.files.TextAt.{TextAt}
@@ -55,18 +57,51 @@ GivesFrom t folder read (name ∷ names) result = Then (GivesFile t folder name 
 abbrev pub GivesFiles : Told → List ℕ → List (List ℕ) → Result (List TextFile) Stop → Type 0
 GivesFiles t folder names = GivesFrom t folder [] names
 
--- the folder with these files, or that there was no memory to name it
-abbrev pub IsFolder : List ℕ → List TextFile → Result Texts Stop → Type 0
-IsFolder folder files (Ok texts) = (texts.path ≡ folder) × (texts.files ≡ files)
-IsFolder folder files (Err stop.NoMemory) = Unit {0}
-IsFolder folder files (Err _) = ⊥
-
 -- the files of a folder one after the other
 abbrev pub GivesAll : Told → List ℕ → Result (List TextFile) Stop → Type 0
 GivesAll t folder = Then (GivesNames (λ names. names) t folder) (GivesFiles t folder)
 
+-- ---- other files
+
+-- names that begin with a dot are those of hidden files
+abbrev pub is_hidden : List ℕ → Bool
+is_hidden [] = false
+is_hidden (b ∷ name) = b == 46
+
+-- a file that isn't read, and isn't hidden
+abbrev pub is_other : List ℕ → Bool
+is_other name = not (is_config_name name) && not (is_hidden name)
+
+-- the names of the folder's other files, in the order of their bytes
+pub record AreOthers (t : Told) (folder : List ℕ) (names : List (List ℕ)) : Type 0 where
+  pub order : IsStrictlySortedBy name_cmp names
+  pub all : (name : List ℕ) → Contains names name ↔ IsNameIn t folder name × (is_other name ≡ true)
+
+-- why the folder can't be listed
+abbrev pub Unlisted : Told → List ℕ → Stop → Type 0
+Unlisted t folder (stop.NotFound p) = (p ≡ folder) × (has_folder t folder ≡ false)
+Unlisted t folder (stop.CannotRead p) = p ≡ folder
+Unlisted t folder stop.NoMemory = Unit {0}
+Unlisted t folder _ = ⊥
+
+abbrev pub GivesOthers : Told → List ℕ → Result (List (List ℕ)) Stop → Type 0
+GivesOthers t folder (Ok names) = AreOthers t folder names
+GivesOthers t folder (Err s) = Unlisted t folder s
+
+-- ---- folders
+
+-- the folder with these files, or that there was no memory to name it
+abbrev pub IsFolder : List ℕ → List TextFile → List (List ℕ) → Result Texts Stop → Type 0
+IsFolder folder files others (Ok texts) = (texts.path ≡ folder) × (texts.files ≡ files) × (texts.unread ≡ others)
+IsFolder folder files others (Err stop.NoMemory) = Unit {0}
+IsFolder folder files others (Err _) = ⊥
+
+-- the files that are read, and then the names of the others
+abbrev pub GivesWith : Told → List ℕ → List TextFile → Result Texts Stop → Type 0
+GivesWith t folder files = Then (GivesOthers t folder) (IsFolder folder files)
+
 abbrev pub GivesTexts : Told → List ℕ → Result Texts Stop → Type 0
-GivesTexts t folder = Then (GivesAll t folder) (IsFolder folder)
+GivesTexts t folder = Then (GivesAll t folder) (GivesWith t folder)
 
 -- ---- a file by itself
 

@@ -4,22 +4,24 @@ use Rattle.net_io.specs.Files.{Told}
 use Rattle.doctor_warnings.specs.declared.network.Subject.{Subject}
 use Rattle.doctor_warnings.specs.declared.files.TextAt.{TextAt}
 use Rattle.doctor_warnings.specs.declared.network.Texts.{Texts}
-use Rattle.doctor_warnings.specs.declared.warning.Warning.{Warning}
-use Rattle.doctor_warnings.specs.Doctor.{warnings}
-use Rattle.doctor_warnings.specs.Texts.{warnings_text}
+use Rattle.doctor_warnings.specs.declared.network.Notes.{Notes}
+use Rattle.doctor_warnings.specs.Doctor.{warnings, AreNotes}
+use Rattle.doctor_warnings.specs.Texts.{IsText}
 use Rattle.job_core.specs.declared.report.Report.{Report}
 use Rattle.job_core.specs.declared.stop.Stop.{Stop}
 use Rattle.job_core.specs.Steps.{OrNoMemory, Then}
 use Rattle.doctor_core.specs.Folders.{GivesTextAt, GivesTexts}
 use Rattle.doctor_core.specs.Words.{Paths, paths_of, text_of}
 
--- all warnings, a line each, and whether there is one
-pub record IsWritten (ws : List Warning) (r : Report) : Type 0 where
-  pub text : r.text.items ≡ warnings_text ws
-  pub affected : r.affected ≡ nat_lt 0 (length ws)
+-- the notes on the networks as they are written, and whether there is a warning
+pub record IsWritten (s : Subject) (r : Report) : Type 0 where
+  pub notes : Notes
+  pub are : AreNotes s notes
+  pub text : IsText s.all notes r.text.items
+  pub affected : r.affected ≡ nat_lt 0 (length (warnings s))
 
 abbrev pub IsLook : Subject → Result Report Stop → Type 0
-IsLook s = OrNoMemory (IsWritten (warnings s))
+IsLook s = OrNoMemory (IsWritten s)
 
 -- ---- the files in the order in which they are read
 

@@ -21,13 +21,15 @@ help_text =
     usage_text
     ++ codes "Says what has to be looked at before a comparison of networks is believed, a line each:\n"
     ++ codes "PATH:LINE: WHAT: the line as it stands. The last line is 'warnings N'.\n"
-    ++ codes "  - each file's first refusal, of all configurations and link tables\n"
+    ++ codes "  - each file's first refusal, and files that aren't read\n"
     ++ codes "  - lines that are passed over and look like a command that is read\n"
-    ++ codes "  - lines that are passed over and stand in one folder's file alone\n"
-    ++ codes "  --all  every line that is passed over\n"
+    ++ codes "  - lines that are passed over and stand in one folder alone, or more often there\n"
+    ++ codes "  - places that no network has, links, lists, routes and translations that do nothing\n"
+    ++ codes "Where there is a warning, lines 'limit: ..' tell the limits of the model that are met.\n"
+    ++ codes "  --all  the limits, and every line that is passed over, counted by its first words\n"
     ++ codes "Statuses: 0 no warning, 1 a warning, 2 usage, 4 cannot read, 5 too long or too many,\n"
     ++ codes "6 cannot write, 7 no memory, 8 not found.\n"
 
 -- `--version`
 abbrev pub version_text : List ℕ
-version_text = codes "diqenyu doctor\n"
+version_text = codes "doctor of Diqenyu, schema 1\n"

@@ -2,6 +2,7 @@
 #![tactic(auto)]
 
 mod looking;
+mod others;
 mod reading;
 mod top;
 mod usage;

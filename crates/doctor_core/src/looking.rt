@@ -1,15 +1,15 @@
 //! The files that the words name, read in their order, and what is told of them.
 
-ghost use Rattle.std.specs.Prelude.{◌≡◌, IfErr, IfOk, IfSome, option_map};
+ghost use Rattle.std.specs.Prelude.{◌≡◌, IfErr, IfOk, IfSome, length, nat_lt, option_map};
 ghost use Rattle.job_core.specs.Causes.{HasCause, WasRead};
 ghost use Rattle.job_core.specs.Steps.{OrNoMemory};
-ghost use Rattle.doctor_warnings.specs.Doctor.{warnings};
+ghost use Rattle.doctor_warnings.specs.Texts.{IsText};
 ghost use Rattle.doctor_core.specs.Job.{IsLook, IsTold, IsWritten, Looks, LooksBehind, LooksOver, LooksWith, with_links};
 ghost use Rattle.doctor_core.specs.Words.{paths};
 
 use crate::reading::{read_text, read_texts};
 use crate::words::Asked;
-use doctor_warnings::{Subject, Tables, TextAt, Texts, warnings_bytes, warnings_in};
+use doctor_warnings::{Notes, Subject, Tables, TextAt, Texts, notes_bytes, notes_on};
 use job_core::{Report, Stop};
 use net_io::Files;
 use net_types::NoMemory;
@@ -143,7 +143,7 @@ fn with_links(subject: Subject, new_links: TextAt) -> Subject
     }
 }
 
-// All warnings as they are written.
+// The notes as they are written.
 fn report_of(alloc: Global, subject: Subject) -> Result<Report, Stop>
     ensures job { IsLook subject result }
     ensures read { IfErr result WasRead }
@@ -152,12 +152,20 @@ fn report_of(alloc: Global, subject: Subject) -> Result<Report, Stop>
 }
 
 fn written(alloc: Global, subject: Subject) -> Result<Report, NoMemory>
-    ensures { IfOk result (IsWritten (warnings subject)) }
+    ensures { IfOk result (IsWritten subject) }
 {
-    let warnings = warnings_in(alloc, subject)?;
+    let all = subject.all;
+    let notes = notes_on(alloc, subject)?;
+    report_with(alloc, all, &notes)
+}
+
+fn report_with(alloc: Global, all: bool, notes: &Notes) -> Result<Report, NoMemory>
+    ensures text { IfOk result (λ r. IsText all notes.now r.text.items) }
+    ensures affected { IfOk result (λ r. r.affected ≡ nat_lt 0 (length notes.now.warnings)) }
+{
     Ok(Report {
-        text: warnings_bytes(alloc, warnings.as_slice())?,
-        affected: warnings.as_slice().len() > 0,
+        text: notes_bytes(alloc, all, notes)?,
+        affected: notes.warnings.as_slice().len() > 0,
     })
 }
 

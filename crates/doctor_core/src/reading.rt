@@ -5,9 +5,10 @@ ghost use Rattle.net_io.specs.Files.{path_in};
 ghost use Rattle.net_io.specs.Limits.{file_limit};
 ghost use Rattle.net_load.specs.Limits.{folder_limit};
 ghost use Rattle.job_core.specs.Causes.{HasCause, WasRead};
-ghost use Rattle.doctor_core.specs.Folders.{GivesAll, GivesFile, GivesFiles, GivesNames, GivesTextAt, GivesTexts, IsFile, IsFolder};
+ghost use Rattle.doctor_core.specs.Folders.{GivesAll, GivesFile, GivesFiles, GivesNames, GivesTextAt, GivesTexts, GivesWith, IsFile, IsFolder};
 ghost use Rattle.doctor_core.specs.Stops.{IsStopOf};
 
+use crate::others::read_others;
 use doctor_warnings::{TextAt, TextFile, Texts};
 use job_core::{Stop, read_bytes};
 use net_io::Files;
@@ -21,8 +22,8 @@ const FILES_LIMIT: usize = 1024;
 // The most bytes that they have together.
 const FOLDER_LIMIT: usize = 67_108_864;
 
-/// The texts of a folder's configurations in the order of their names; or why there are none: the folder isn't there, it has too
-/// many files or bytes, or a file can't be read.
+/// The texts of a folder's configurations in the order of their names, and the names of its other files; or why there are none: the
+/// folder isn't there, it has too many files or bytes, or a file can't be read.
 pub(crate) fn read_texts<F: Files>(
     alloc: Global,
     files: &mut F,
@@ -33,19 +34,41 @@ pub(crate) fn read_texts<F: Files>(
     ensures same { F.told files.new ≡ F.told files.old }
 {
     match read_folder(alloc, files, folder) {
-        Ok(texts) => folder_of(alloc, folder, texts),
+        Ok(texts) => read_with(alloc, files, folder, texts),
         Err(stop) => Err(stop),
     }
 }
 
-// The folder with these files.
-fn folder_of(alloc: Global, folder: &str, files: List<TextFile>) -> Result<Texts, Stop>
-    ensures folder { IsFolder folder.now files result }
+// The folder with these files, and the names of its other ones.
+fn read_with<F: Files>(
+    alloc: Global,
+    files: &mut F,
+    folder: &str,
+    texts: List<TextFile>,
+) -> Result<Texts, Stop>
+    ensures texts { IfSome (F.told files.old) (λ t. GivesWith t folder.now texts result) }
+    ensures cause { HasCause (F.faults files.old) (F.faults files.new) result }
+    ensures same { F.told files.new ≡ F.told files.old }
+{
+    match read_others(alloc, files, folder) {
+        Ok(others) => folder_of(alloc, folder, texts, others),
+        Err(stop) => Err(stop),
+    }
+}
+
+fn folder_of(
+    alloc: Global,
+    folder: &str,
+    files: List<TextFile>,
+    unread: List<Text>,
+) -> Result<Texts, Stop>
+    ensures folder { IsFolder folder.now files unread result }
     ensures read { IfErr result WasRead }
 {
     Ok(Texts {
         path: Text::copy_of(alloc, folder.as_bytes())?,
         files,
+        unread,
     })
 }
 

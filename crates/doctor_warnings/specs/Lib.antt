@@ -3,6 +3,9 @@ pub mod Readings
 pub mod Told
 pub mod Warnings
 pub mod Tables
+pub mod Limits
+pub mod Listed
 pub mod Doctor
 pub mod Texts
 pub mod Sides
+pub mod Beside

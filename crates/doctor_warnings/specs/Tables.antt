@@ -1,6 +1,6 @@
 -- What is told of a link table: its refusal, by its own words or for the networks that it wires; or the places that are worth a
--- look, where it isn't refused.
-use Rattle.std.specs.Prelude.{ℕ, Bool, true, false, List, [], ◌∷◌, ◌++◌, map, Option, Some, None, Result, Ok, Err, is_some, if◌then◌else◌}
+-- look and the limits of the model that its links meet, where it isn't refused.
+use Rattle.std.specs.Prelude.{ℕ, Bool, true, false, List, [], ◌∷◌, ◌++◌, map, Option, Some, None, Result, Ok, Err, is_some, codes, if◌then◌else◌}
 use Rattle.std.specs.List.{list_any}
 use Rattle.net_types.specs.declared.config.Loaded.{Loaded}
 use Rattle.ios_config.specs.Reads.{effects, refusal}
@@ -16,9 +16,12 @@ use Rattle.topo_links.specs.Check.{table_fault, own_table_fault}
 use Rattle.place_checks.specs.declared.finding.Networks.TheVariants as networks
 use Rattle.place_checks.specs.declared.finding.PlaceFinding.{PlaceFinding}
 use Rattle.place_checks.specs.declared.strays.StrayNext.{StrayNext}
+use Rattle.place_checks.specs.Ethernet.{ethernet_links}
 use Rattle.place_checks.specs.Findings.{Pair, place_findings}
 use Rattle.place_checks.specs.Strays.{stray_findings}
 use Rattle.doctor_warnings.specs.declared.files.TextFile.{TextFile}
+use Rattle.doctor_warnings.specs.declared.limit.Limit.{Limit}
+use Rattle.doctor_warnings.specs.declared.limit.LimitKind.TheVariants as limit
 use Rattle.doctor_warnings.specs.declared.tables.Nets.{Nets}
 use Rattle.doctor_warnings.specs.declared.wiring.Wiring.{Wiring}
 use Rattle.doctor_warnings.specs.declared.wiring.Wiring.TheVariants as wiring
@@ -113,3 +116,24 @@ read_warnings w path nets bytes (Ok t) = judged_warnings w path nets bytes t.lin
 -- what is told of the bytes of a table
 abbrev pub table_warnings : Wiring → List ℕ → Option (List Loaded × List Loaded) → List ℕ → List Warning
 table_warnings w path nets bytes = read_warnings w path nets bytes (table_of bytes)
+
+-- ---- the links on Ethernet that are p2p
+
+abbrev pub met_links : List ℕ → List ℕ → List Limit
+met_links path ns = map (λ n. record { path = path; line = n; words = codes "p2p on Ethernet"; kind = limit.Ethernet }) ns
+
+abbrev pub place_limits : Wiring → List ℕ → Option (List Loaded × List Loaded) → List LinkLine → List Limit
+place_limits w path None lines = []
+place_limits w path (Some nets) lines = met_links path (ethernet_links (judged w nets) lines)
+
+-- of a table that isn't refused for the networks
+abbrev pub judged_limits : Wiring → List ℕ → Option (List Loaded × List Loaded) → List LinkLine → Option LinkFail → List Limit
+judged_limits w path nets lines (Some f) = []
+judged_limits w path nets lines None = place_limits w path nets lines
+
+abbrev pub read_limits : Wiring → List ℕ → Option (List Loaded × List Loaded) → Result LinkTable LinkFail → List Limit
+read_limits w path nets (Err f) = []
+read_limits w path nets (Ok t) = judged_limits w path nets t.lines (fault_of (is_own w) nets t.lines)
+
+abbrev pub table_limits : Wiring → List ℕ → Option (List Loaded × List Loaded) → List ℕ → List Limit
+table_limits w path nets bytes = read_limits w path nets (table_of bytes)

@@ -1,53 +1,61 @@
 //! What is told of a folder's files.
-ghost use Rattle.std.specs.Prelude.{◌≡◌, ◌≤◌, ◌++◌, IfOk, OnOk, length, map, option_map, option_to_list};
+ghost use Rattle.std.specs.Prelude.{◌≡◌, ◌≤◌, ◌++◌, ◌∷◌, [], IfOk, OnOk, length, map, option_and_then, option_map, option_to_list};
+ghost use Rattle.std.specs.List.{flat_map};
 ghost use Rattle.net_text.specs.Limits.{text_limit};
 ghost use Rattle.net_io.specs.Files.{path_in};
 ghost use Rattle.ios_config.specs.Reads.{effects, refusal};
-ghost use Rattle.doctor_warnings.specs.Warnings.{empty_warnings, file_named, file_warnings, folder_warnings, other_keys, refused_warning};
-ghost use Rattle.doctor_warnings.specs.Sides.{files_beside};
+ghost use Rattle.doctor_warnings.specs.Beside.{IsBeside};
+ghost use Rattle.doctor_warnings.specs.Sides.{files_beside, files_in, texts_in};
+ghost use Rattle.doctor_warnings.specs.Told.{keys};
+ghost use Rattle.doctor_warnings.specs.Warnings.{alone_warnings, empty_warnings, file_named, file_warnings, folder_warnings, is_alone, other_keys, refused_warning, unread_warnings};
 
 use crate::configs::add_config;
 use crate::examined::Examined;
+use crate::hosts::add_taken;
 use crate::lines::{nth_line, trimmed};
-use crate::passing::{Beside, add_passed, keys_of};
+use crate::passing::{Beside, add_passed};
 use crate::warning::Warning;
-use ios_config::{Reading, Refusal};
-use net_types::{Duplicate, NoMemory, Text};
+use ios_config::Refusal;
+use net_types::{Duplicate, List, NoMemory, Text};
 use std::alloc::Global;
-use topo_links::NameIndex;
 
-/// A folder with which another may be compared.
-#[derive(Clone, Copy)]
-pub struct Side<'a> {
-    /// Whether all lines that are passed over are told.
-    pub all: bool,
-    pub path: &'a [u8],
-    pub files: &'a [Examined],
-    pub others: Option<&'a [Examined]>,
+/// A folder whose files were examined.
+#[derive(Drop)]
+pub struct Folder {
+    pub path: Text,
+    pub files: Vec<Examined>,
+    /// The names of its other files.
+    pub unread: List<Text>,
 }
 
-/// Adds what is told of the files of a folder, in their order.
+/// Adds what is told of a folder, beside another one where there is one: of the folder as a whole, of its files in their order,
+/// and of their hostnames.
 pub(crate) fn add_folder(
     alloc: Global,
-    side: Side<'_>,
+    folder: &Folder,
+    other: Option<&Folder>,
     warnings: &mut Vec<Warning>,
 ) -> Result<(), NoMemory>
-    ensures { OnOk result (warnings.new.items ≡ warnings.old.items ++ folder_warnings side.entry.all side.entry.path.now (files_beside side.entry) (map (λ e. e.file) side.entry.files.now)) }
+    ensures { OnOk result (warnings.new.items ≡ warnings.old.items ++ folder_warnings (texts_in folder.now) (files_beside other.entry)) }
 {
-    add_empty(alloc, side, warnings)?;
-    for file in side.files {
-        add_file(alloc, side, file, warnings)?;
-    }
-    Ok(())
+    add_empty(alloc, folder, warnings)?;
+    add_unread(alloc, folder, warnings)?;
+    add_files(alloc, folder, other, warnings)?;
+    add_taken(
+        alloc,
+        folder.path.as_bytes(),
+        folder.files.as_slice(),
+        warnings,
+    )
 }
 
 /// Says that there is no file.
-fn add_empty(alloc: Global, side: Side<'_>, warnings: &mut Vec<Warning>) -> Result<(), NoMemory>
-    ensures { OnOk result (warnings.new.items ≡ warnings.old.items ++ empty_warnings side.entry.path.now (map (λ e. e.file) side.entry.files.now)) }
+fn add_empty(alloc: Global, folder: &Folder, warnings: &mut Vec<Warning>) -> Result<(), NoMemory>
+    ensures { OnOk result (warnings.new.items ≡ warnings.old.items ++ empty_warnings folder.now.path (files_in folder.now)) }
 {
-    match side.files {
+    match folder.files.as_slice() {
         [] => {
-            let folder = Text::copy_of(alloc, side.path)?;
+            let folder = folder.path.copy(alloc)?;
             warnings.push(Warning::NoConfigs { folder })?;
             Ok(())
         }
@@ -55,34 +63,77 @@ fn add_empty(alloc: Global, side: Side<'_>, warnings: &mut Vec<Warning>) -> Resu
     }
 }
 
+/// Says which other files there are.
+fn add_unread(alloc: Global, folder: &Folder, warnings: &mut Vec<Warning>) -> Result<(), NoMemory>
+    ensures { OnOk result (warnings.new.items ≡ warnings.old.items ++ unread_warnings folder.now.path folder.now.unread) }
+{
+    for name in folder.unread.as_slice() {
+        let path = path_in(alloc, folder.path.as_bytes(), name)?;
+        warnings.push(Warning::Unread { path })?;
+    }
+    Ok(())
+}
+
+/// Adds what is told of the files, in their order.
+fn add_files(
+    alloc: Global,
+    folder: &Folder,
+    other: Option<&Folder>,
+    warnings: &mut Vec<Warning>,
+) -> Result<(), NoMemory>
+    ensures { OnOk result (warnings.new.items ≡ warnings.old.items
+        ++ flat_map (λ f. file_warnings (is_alone (files_beside other.entry) f.name) (other_keys (files_beside other.entry) f.name) (path_in folder.now.path f.name) f.bytes) (files_in folder.now)) }
+{
+    for file in folder.files.as_slice() {
+        add_file(alloc, folder.path.as_bytes(), other, file, warnings)?;
+    }
+    Ok(())
+}
+
 /// Adds what is told of one file.
 fn add_file(
     alloc: Global,
-    side: Side<'_>,
+    folder: &[u8],
+    other: Option<&Folder>,
     file: &Examined,
     warnings: &mut Vec<Warning>,
 ) -> Result<(), NoMemory>
     ensures { OnOk result (warnings.new.items ≡ warnings.old.items
-        ++ file_warnings side.entry.all (other_keys (files_beside side.entry) file.now.file.name) (path_in side.entry.path.now file.now.file.name) file.now.file.bytes) }
+        ++ file_warnings (is_alone (files_beside other.entry) file.now.file.name) (other_keys (files_beside other.entry) file.now.file.name) (path_in folder.now file.now.file.name) file.now.file.bytes) }
 {
-    let path = path_in(alloc, side.path, &file.file.name)?;
+    let path = path_in(alloc, folder, &file.file.name)?;
+    let named = file_beside(&file.file.name, other);
+    add_alone(alloc, is_alone(&file.file.name, other), &path, warnings)?;
     add_refusal(alloc, &path, file, warnings)?;
-    let beside = Beside {
-        all: side.all,
-        other: other_keys(alloc, side, &file.file.name)?,
-    };
-    add_passed(alloc, &beside, &path, file, warnings)?;
+    let mut beside = beside_of(alloc, named)?;
+    add_passed(alloc, &mut beside, &path, file, warnings)?;
     add_config(alloc, &path, file, warnings)
 }
 
 /// The path of a file.
-fn path_in(alloc: Global, folder: &[u8], name: &Text) -> Result<Text, NoMemory>
+pub(crate) fn path_in(alloc: Global, folder: &[u8], name: &Text) -> Result<Text, NoMemory>
     ensures { IfOk result (λ path. path ≡ path_in folder.now name.now) }
 {
     let mut path = folder.to_vec(alloc)?;
     path.push(b'/')?;
     path.extend_from_slice(name.as_bytes())?;
     Ok(Text::new(path))
+}
+
+/// Says that the other folder has no file of the name.
+fn add_alone(
+    alloc: Global,
+    alone: bool,
+    path: &Text,
+    warnings: &mut Vec<Warning>,
+) -> Result<(), NoMemory>
+    ensures { OnOk result (warnings.new.items ≡ warnings.old.items ++ alone_warnings alone path.now) }
+{
+    if alone {
+        let path = path.copy(alloc)?;
+        warnings.push(Warning::OneFolder { path })?;
+    }
+    Ok(())
 }
 
 /// Adds the refusal of a file.
@@ -122,16 +173,33 @@ fn refused_warning(
     })
 }
 
-/// The keys of the other folder's file of this name.
-fn other_keys(alloc: Global, side: Side<'_>, name: &Text) -> Result<Option<NameIndex>, NoMemory>
-    ensures { IfOk result (λ keys. keys ≡ other_keys (files_beside side.entry) name.now) }
+/// Whether there is another folder, and it has no file of this name.
+fn is_alone(name: &Text, other: Option<&Folder>) -> bool
+    ensures { result ≡ is_alone (files_beside other.entry) name.now }
 {
-    let Some(others) = side.others else {
-        return Ok(None);
-    };
-    match file_named(name, others) {
+    match other {
+        None => false,
+        Some(other) => file_named(name, other.files.as_slice()).is_none(),
+    }
+}
+
+/// The other folder's file of this name.
+fn file_beside<'a>(name: &Text, other: Option<&'a Folder>) -> Option<&'a Examined>
+    ensures { option_map (λ e. e.now.file) result ≡ option_and_then (file_named name.now) (files_beside other.entry) }
+{
+    match other {
+        None => None,
+        Some(other) => file_named(name, other.files.as_slice()),
+    }
+}
+
+/// The lines of the other file, if there is one, and none of this one.
+fn beside_of(alloc: Global, other: Option<&Examined>) -> Result<Option<Beside>, NoMemory>
+    ensures { IfOk result (λ beside. IsBeside (option_map (λ f. keys f.bytes) (option_map (λ e. e.now.file) other.entry)) [] beside) }
+{
+    match other {
         None => Ok(None),
-        Some(file) => Ok(Some(keys_of(alloc, file)?)),
+        Some(other) => Ok(Some(Beside::of(alloc, other)?)),
     }
 }
 

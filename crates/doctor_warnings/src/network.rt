@@ -1,12 +1,16 @@
 //! What is told of one network or two.
-ghost use Rattle.std.specs.Prelude.{◌≡◌, ◌++◌, IfOk, OnOk, Some, map};
-ghost use Rattle.doctor_warnings.specs.Warnings.{folder_warnings};
-ghost use Rattle.doctor_warnings.specs.Doctor.{tables_warnings, warnings, warnings_alone, warnings_of_both};
+ghost use Rattle.std.specs.Prelude.{◌≡◌, ◌++◌, [], IfOk, OnOk, None, Some, map, option_map, if◌then◌else◌};
+ghost use Rattle.doctor_warnings.specs.Doctor.{tables_limits, tables_warnings, AreNotes};
+ghost use Rattle.doctor_warnings.specs.Limits.{refused_limits};
+ghost use Rattle.doctor_warnings.specs.Listed.{folder_lines, lines_if_any};
+ghost use Rattle.doctor_warnings.specs.Sides.{texts_in};
 
-use crate::examined::{Examined, examine_all};
+use crate::examined::examine_all;
 use crate::files::{TextAt, TextFile};
-use crate::folder::{Side, add_folder};
-use crate::tables::{add_table, both_of, devices_of};
+use crate::folder::{Folder, add_folder};
+use crate::limit::{Limit, refused_limits};
+use crate::listing::{ListedLine, add_lines};
+use crate::tables::{TableNotes, add_table, both_of, devices_of};
 use crate::warning::Warning;
 use crate::wiring::Wiring;
 use net_types::{List, Loaded, NoMemory, Text};
@@ -17,6 +21,8 @@ use std::alloc::Global;
 pub struct Texts {
     pub path: Text,
     pub files: List<TextFile>,
+    /// The names of its files that aren't read, in the order of their bytes.
+    pub unread: List<Text>,
 }
 
 /// The link table of both networks, or one for each.
@@ -30,23 +36,26 @@ pub struct Tables {
 /// What is looked at: one network, or two that are compared.
 #[derive(Drop)]
 pub struct Subject {
-    /// Whether all lines that are passed over are told.
+    /// Whether all lines that are passed over are listed.
     pub all: bool,
     pub old: Texts,
     pub new: Option<Texts>,
     pub tables: Tables,
 }
 
-// A folder whose files were examined.
+/// Everything that is told.
 #[derive(Drop)]
-struct Folder {
-    path: Text,
-    files: Vec<Examined>,
+pub struct Notes {
+    pub warnings: List<Warning>,
+    /// Where the networks meet a limit of the model.
+    pub limits: List<Limit>,
+    /// The lines that are passed over, where all are asked for.
+    pub lines: List<ListedLine>,
 }
 
 /// Everything that is told of the networks and their tables, in order.
-pub fn warnings_in(alloc: Global, subject: Subject) -> Result<List<Warning>, NoMemory>
-    ensures { IfOk result (λ ws. ws ≡ warnings subject) }
+pub fn notes_on(alloc: Global, subject: Subject) -> Result<Notes, NoMemory>
+    ensures { IfOk result (AreNotes subject) }
 {
     let Subject {
         all,
@@ -54,59 +63,56 @@ pub fn warnings_in(alloc: Global, subject: Subject) -> Result<List<Warning>, NoM
         new,
         tables,
     } = subject;
+    let old = folder_of(alloc, old)?;
     match new {
-        None => warn_alone(alloc, all, old, &tables),
-        Some(new) => warn_of_both(alloc, all, old, new, &tables),
+        None => notes_alone(alloc, all, old, &tables),
+        Some(new) => notes_on_both(alloc, all, old, folder_of(alloc, new)?, &tables),
     }
 }
 
-/// One network.
-fn warn_alone(
-    alloc: Global,
-    all: bool,
-    net: Texts,
-    tables: &Tables,
-) -> Result<List<Warning>, NoMemory>
-    ensures { IfOk result (λ ws. ws ≡ warnings_alone all net tables.now) }
+/// What is found in the files of a folder.
+fn folder_of(alloc: Global, texts: Texts) -> Result<Folder, NoMemory>
+    ensures { IfOk result (λ f. texts_in f ≡ texts) }
 {
-    let Texts { path, files } = net;
-    let files = examine_all(alloc, files.into_vec())?;
-    let mut warnings = Vec::new(alloc);
-    let none: Option<&[Examined]> = None;
-    let side = Side {
-        all,
-        path: path.as_bytes(),
-        files: &files,
-        others: none,
-    };
-    add_folder(alloc, side, &mut warnings)?;
-    let devices = devices_of(alloc, files)?;
-    add_tables(
-        alloc,
-        Wiring::Alone,
-        &devices,
-        &devices,
-        tables,
-        &mut warnings,
-    )?;
-    Ok(List::new(warnings))
+    let Texts {
+        path,
+        files,
+        unread,
+    } = texts;
+    Ok(Folder {
+        path,
+        files: examine_all(alloc, files.into_vec())?,
+        unread,
+    })
+}
+
+/// One network.
+fn notes_alone(alloc: Global, all: bool, net: Folder, tables: &Tables) -> Result<Notes, NoMemory>
+    ensures { IfOk result (AreNotes (record { all = all; old = texts_in net; new = None; tables = tables.now })) }
+{
+    let mut notes = TableNotes::new(alloc);
+    let none: Option<&Folder> = None;
+    add_folder(alloc, &net, none, &mut notes.warnings)?;
+    let lines = lines_of(alloc, all, &net, none)?;
+    let devices = devices_of(alloc, net.files)?;
+    add_tables(alloc, Wiring::Alone, &devices, &devices, tables, &mut notes)?;
+    finish(alloc, notes, lines)
 }
 
 /// Two networks.
-fn warn_of_both(
+fn notes_on_both(
     alloc: Global,
     all: bool,
-    old: Texts,
-    new: Texts,
+    old: Folder,
+    new: Folder,
     tables: &Tables,
-) -> Result<List<Warning>, NoMemory>
-    ensures { IfOk result (λ ws. ws ≡ warnings_of_both all old new tables.now) }
+) -> Result<Notes, NoMemory>
+    ensures { IfOk result (AreNotes (record { all = all; old = texts_in old; new = Some (texts_in new); tables = tables.now })) }
 {
-    let old = folder_of(alloc, old)?;
-    let new = folder_of(alloc, new)?;
-    let mut warnings = Vec::new(alloc);
-    add_beside(alloc, all, &old, &new, &mut warnings)?;
-    add_beside(alloc, all, &new, &old, &mut warnings)?;
+    let mut notes = TableNotes::new(alloc);
+    add_folder(alloc, &old, Some(&new), &mut notes.warnings)?;
+    add_folder(alloc, &new, Some(&old), &mut notes.warnings)?;
+    let lines = lines_of(alloc, all, &old, Some(&new))?;
     let old_devices = devices_of(alloc, old.files)?;
     let new_devices = devices_of(alloc, new.files)?;
     add_tables(
@@ -115,40 +121,29 @@ fn warn_of_both(
         &old_devices,
         &new_devices,
         tables,
-        &mut warnings,
+        &mut notes,
     )?;
-    Ok(List::new(warnings))
+    finish(alloc, notes, lines)
 }
 
-/// What is found in the files of a folder.
-fn folder_of(alloc: Global, texts: Texts) -> Result<Folder, NoMemory>
-    ensures path { IfOk result (λ f. f.path ≡ texts.path) }
-    ensures files { IfOk result (λ f. map (λ e. e.file) f.files.items ≡ texts.files) }
-{
-    let Texts { path, files } = texts;
-    let files = examine_all(alloc, files.into_vec())?;
-    Ok(Folder { path, files })
-}
-
-/// Adds what is told of a folder's files beside another folder.
-fn add_beside(
+/// The lines of the folders that are passed over, where all are asked for.
+fn lines_of(
     alloc: Global,
     all: bool,
-    folder: &Folder,
-    other: &Folder,
-    warnings: &mut Vec<Warning>,
-) -> Result<(), NoMemory>
-    ensures { OnOk result (warnings.new.items ≡ warnings.old.items
-        ++ folder_warnings all folder.now.path (Some (map (λ e. e.file) other.now.files.items)) (map (λ e. e.file) folder.now.files.items)) }
+    old: &Folder,
+    new: Option<&Folder>,
+) -> Result<Vec<ListedLine>, NoMemory>
+    ensures { IfOk result (λ lines. lines.items ≡ (if all then folder_lines (texts_in old.now) ++ lines_if_any (option_map (λ f. texts_in f.now) new.entry) else [])) }
 {
-    let others = Some(other.files.as_slice());
-    let side = Side {
-        all,
-        path: folder.path.as_bytes(),
-        files: folder.files.as_slice(),
-        others,
-    };
-    add_folder(alloc, side, warnings)
+    let mut lines = Vec::new(alloc);
+    if !all {
+        return Ok(lines);
+    }
+    add_lines(alloc, old.path.as_bytes(), old.files.as_slice(), &mut lines)?;
+    if let Some(new) = new {
+        add_lines(alloc, new.path.as_bytes(), new.files.as_slice(), &mut lines)?;
+    }
+    Ok(lines)
 }
 
 /// Adds what is told of the tables; `only` is what a table wires where there is no other.
@@ -158,21 +153,37 @@ fn add_tables(
     old: &Option<List<Loaded>>,
     new: &Option<List<Loaded>>,
     tables: &Tables,
-    warnings: &mut Vec<Warning>,
+    notes: &mut TableNotes,
 ) -> Result<(), NoMemory>
-    ensures { OnOk result (warnings.new.items ≡ warnings.old.items ++ tables_warnings only old.now new.now tables.now) }
+    ensures warnings { OnOk result (notes.new.warnings.items ≡ notes.old.warnings.items ++ tables_warnings only old.now new.now tables.now) }
+    ensures limits { OnOk result (notes.new.limits.items ≡ notes.old.limits.items ++ tables_limits only old.now new.now tables.now) }
 {
     match &tables.new_links {
-        None => add_table(alloc, only, &tables.links, both_of(old, new), warnings),
+        None => add_table(alloc, only, &tables.links, both_of(old, new), notes),
         Some(new_links) => {
-            add_table(
-                alloc,
-                Wiring::Old,
-                &tables.links,
-                both_of(old, new),
-                warnings,
-            )?;
-            add_table(alloc, Wiring::New, new_links, both_of(new, old), warnings)
+            add_table(alloc, Wiring::Old, &tables.links, both_of(old, new), notes)?;
+            add_table(alloc, Wiring::New, new_links, both_of(new, old), notes)
         }
     }
+}
+
+/// The notes, with the limits of what is refused first.
+fn finish(alloc: Global, notes: TableNotes, lines: Vec<ListedLine>) -> Result<Notes, NoMemory>
+    ensures warnings { IfOk result (λ n. n.warnings ≡ notes.warnings.items) }
+    ensures limits { IfOk result (λ n. n.limits ≡ refused_limits notes.warnings.items ++ notes.limits.items) }
+    ensures lines { IfOk result (λ n. n.lines ≡ lines.items) }
+{
+    let TableNotes {
+        warnings,
+        limits: wired,
+    } = notes;
+    let mut limits = refused_limits(alloc, &warnings)?;
+    for limit in wired {
+        limits.push(limit)?;
+    }
+    Ok(Notes {
+        warnings: List::new(warnings),
+        limits: List::new(limits),
+        lines: List::new(lines),
+    })
 }

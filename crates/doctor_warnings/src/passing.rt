@@ -1,9 +1,9 @@
 //! Which of the lines that are passed over are told, and why.
-ghost use Rattle.std.specs.Prelude.{◌≡◌, ◌++◌, [], IfOk, OnOk, map};
-ghost use Rattle.std.specs.List.{flat_map};
-ghost use Rattle.topo_links.specs.Names.{add_names};
-ghost use Rattle.doctor_warnings.specs.Told.{key, keys, told_lines};
-ghost use Rattle.doctor_warnings.specs.Warnings.{is_only_here, look_of, passed_warnings, reason_by, reason_of};
+ghost use Rattle.std.specs.Prelude.{◌≡◌, ◌++◌, ◌∷◌, ◌<◌, ◌^◌, [], ℕ, List, Option, IfOk, OnOk, length, map};
+ghost use Rattle.text_tallies.specs.Tallies.{AreSeen};
+ghost use Rattle.doctor_warnings.specs.Beside.{IsBeside, IsJudged, IsMarked, IsTold};
+ghost use Rattle.doctor_warnings.specs.Told.{key, keys};
+ghost use Rattle.doctor_warnings.specs.Warnings.{is_only_here, look_of, passed_behind, passed_by, passed_warnings, reason_by, reason_of};
 
 use crate::examined::Examined;
 use crate::lines::line_at;
@@ -12,46 +12,74 @@ use crate::warning::{Reason, Warning};
 use look_alikes::{LookAlike, look_alike};
 use net_types::{Duplicate, NoMemory, Text};
 use std::alloc::Global;
-use topo_links::NameIndex;
+use text_tallies::Tallies;
 
-/// What decides which lines are told.
+/// How often lines stand in two files, by their keys.
 #[derive(Drop)]
 pub struct Beside {
-    /// Whether all are.
-    pub all: bool,
-    /// The lines of the other folder's file of the same name, by their keys; none where there is no such file.
-    pub other: Option<NameIndex>,
+    /// All lines of the other folder's file of the same name.
+    pub there: Tallies,
+    /// The lines of this file so far.
+    pub here: Tallies,
 }
 
-/// The keys of a file's lines that are passed over, each once.
-pub(crate) fn keys_of(alloc: Global, file: &Examined) -> Result<NameIndex, NoMemory>
-    ensures { IfOk result (λ index. index ≡ add_names [] (keys file.now.file.bytes)) }
+impl Beside {
+    ghost use Rattle.std.specs.Prelude.{count_by, nat_le};
+    ghost use Rattle.std.specs.Str.{bytes_eq};
+
+    /// The lines of the other file, and none of this one.
+    pub(crate) fn of(alloc: Global, other: &Examined) -> Result<Beside, NoMemory>
+        ensures there { IfOk result (λ b. AreSeen (keys other.now.file.bytes) b.there) }
+        ensures here { IfOk result (λ b. AreSeen [] b.here) }
+    {
+        Ok(Beside {
+            there: keys_of(alloc, other)?,
+            here: Tallies::new(alloc),
+        })
+    }
+
+    /// Whether a line stands here more often than there, as far as the lines of this file have come; and counts it.
+    fn mark(&mut self, alloc: Global, key: &Text) -> Result<bool, NoMemory>
+        ensures { (ks before : List (List ℕ)) → length before < 2 ^ 63 → AreSeen ks self.old.there → AreSeen before self.old.here
+            → IfOk result (λ more. IsMarked ks before key.now more self.new) }
+    {
+        let bytes = key.as_bytes();
+        let there = self.there.count(bytes);
+        let here = self.here.count(bytes);
+        self.here.add(alloc, bytes)?;
+        Ok(there <= here)
+    }
+}
+
+/// The keys of a file's lines that are passed over.
+fn keys_of(alloc: Global, file: &Examined) -> Result<Tallies, NoMemory>
+    ensures { IfOk result (AreSeen (keys file.now.file.bytes)) }
 {
     let bytes = file.file.bytes.as_slice();
     let told = told_lines(alloc, bytes, &file.passed)?;
-    index_of(alloc, bytes, &told)
+    tallies_of(alloc, bytes, &told)
 }
 
-fn index_of(alloc: Global, bytes: &[u8], told: &[ToldLine]) -> Result<NameIndex, NoMemory>
-    ensures { IfOk result (λ index. index ≡ add_names [] (map (key bytes.now) told.now)) }
+fn tallies_of(alloc: Global, bytes: &[u8], told: &[ToldLine]) -> Result<Tallies, NoMemory>
+    ensures { IfOk result (AreSeen (map (key bytes.now) told.now)) }
 {
-    let mut index = NameIndex::new(alloc);
+    let mut tallies = Tallies::new(alloc);
     for line in told {
         let key = line.key(alloc, bytes)?;
-        index.add(alloc, &key)?;
+        tallies.add(alloc, key.as_bytes())?;
     }
-    Ok(index)
+    Ok(tallies)
 }
 
-/// Adds what is told of a file's lines that are passed over.
+/// Adds what is told of a file's lines that are passed over, beside those of the other file, if there is one.
 pub(crate) fn add_passed(
     alloc: Global,
-    beside: &Beside,
+    beside: &mut Option<Beside>,
     path: &Text,
     file: &Examined,
     warnings: &mut Vec<Warning>,
 ) -> Result<(), NoMemory>
-    ensures { OnOk result (warnings.new.items ≡ warnings.old.items ++ flat_map (passed_warnings beside.now.all beside.now.other path.now file.now.file.bytes) (told_lines file.now.file.bytes)) }
+    ensures { (ks : Option (List (List ℕ))) → IsBeside ks [] beside.old → OnOk result (warnings.new.items ≡ warnings.old.items ++ passed_warnings ks path.now file.now.file.bytes) }
 {
     let bytes = file.file.bytes.as_slice();
     let told = told_lines(alloc, bytes, &file.passed)?;
@@ -60,13 +88,13 @@ pub(crate) fn add_passed(
 
 fn add_told(
     alloc: Global,
-    beside: &Beside,
+    beside: &mut Option<Beside>,
     path: &Text,
     bytes: &[u8],
     told: &[ToldLine],
     warnings: &mut Vec<Warning>,
 ) -> Result<(), NoMemory>
-    ensures { OnOk result (warnings.new.items ≡ warnings.old.items ++ flat_map (passed_warnings beside.now.all beside.now.other path.now bytes.now) told.now) }
+    ensures { (ks : Option (List (List ℕ))) → IsBeside ks [] beside.old → OnOk result (warnings.new.items ≡ warnings.old.items ++ passed_behind ks path.now bytes.now [] told.now) }
 {
     for line in told {
         add_line(alloc, beside, path, bytes, *line, warnings)?;
@@ -77,55 +105,55 @@ fn add_told(
 /// Adds what is told of a line, if anything is.
 fn add_line(
     alloc: Global,
-    beside: &Beside,
+    beside: &mut Option<Beside>,
     path: &Text,
     bytes: &[u8],
     line: ToldLine,
     warnings: &mut Vec<Warning>,
 ) -> Result<(), NoMemory>
-    ensures { OnOk result (warnings.new.items ≡ warnings.old.items ++ passed_warnings beside.now.all beside.now.other path.now bytes.now line) }
+    ensures { (ks : Option (List (List ℕ))) (before : List (List ℕ)) → length before < 2 ^ 63 → IsBeside ks before beside.old
+        → OnOk result (IsTold ks before (key bytes.now line) (passed_by path.now bytes.now line (reason_of ks before bytes.now line)) warnings.old.items warnings.new.items beside.new) }
 {
-    match reason_of(alloc, beside, bytes, line)? {
-        None => Ok(()),
-        Some(reason) => {
-            warnings.push(Warning::Passed {
-                path: path.copy(alloc)?,
-                line: line.number,
-                reason,
-                text: Text::copy_of(alloc, line.text(bytes))?,
-            })?;
-            Ok(())
-        }
-    }
+    let only = is_only_here(alloc, beside, bytes, line)?;
+    add_reason(
+        alloc,
+        path,
+        bytes,
+        line,
+        reason_by(look_of(bytes, line), only),
+        warnings,
+    )
 }
 
-/// Why a line is told.
-fn reason_of(
+/// Adds a line that is told for a reason.
+fn add_reason(
     alloc: Global,
-    beside: &Beside,
+    path: &Text,
     bytes: &[u8],
     line: ToldLine,
-) -> Result<Option<Reason>, NoMemory>
-    ensures { IfOk result (λ r. r ≡ reason_of beside.now.all beside.now.other bytes.now line) }
+    reason: Option<Reason>,
+    warnings: &mut Vec<Warning>,
+) -> Result<(), NoMemory>
+    ensures { OnOk result (warnings.new.items ≡ warnings.old.items ++ passed_by path.now bytes.now line reason) }
 {
-    let only = is_only_here(alloc, &beside.other, bytes, line)?;
-    Ok(reason_by(look_of(bytes, line), only, beside.all))
+    let Some(reason) = reason else {
+        return Ok(());
+    };
+    warnings.push(Warning::Passed {
+        path: path.copy(alloc)?,
+        line: line.number,
+        reason,
+        text: Text::copy_of(alloc, line.text(bytes))?,
+    })?;
+    Ok(())
 }
 
-fn reason_by(look: Option<LookAlike>, only: bool, all: bool) -> Option<Reason>
-    ensures { result ≡ reason_by look only all }
+fn reason_by(look: Option<LookAlike>, only: bool) -> Option<Reason>
+    ensures { result ≡ reason_by look only }
 {
     match look {
         Some(look) => Some(Reason::Looks { look }),
-        None => {
-            if only {
-                Some(Reason::OnlyHere)
-            } else if all {
-                Some(Reason::All)
-            } else {
-                None
-            }
-        }
+        None => { if only { Some(Reason::OnlyHere) } else { None } }
     }
 }
 
@@ -136,20 +164,21 @@ fn look_of(bytes: &[u8], line: ToldLine) -> Option<LookAlike>
     look_alike(line.mode, line_at(bytes, line.start))
 }
 
-/// Whether the other file is there and hasn't the line.
+/// Whether there is another file, and the line stands in this one more often so far.
 fn is_only_here(
     alloc: Global,
-    other: &Option<NameIndex>,
+    beside: &mut Option<Beside>,
     bytes: &[u8],
     line: ToldLine,
 ) -> Result<bool, NoMemory>
-    ensures { IfOk result (λ only. only ≡ is_only_here other.now (key bytes.now line)) }
+    ensures { (ks : Option (List (List ℕ))) (before : List (List ℕ)) → length before < 2 ^ 63 → IsBeside ks before beside.old
+        → IfOk result (λ only. IsJudged ks before (key bytes.now line) only beside.new) }
 {
-    match other {
+    match beside {
         None => Ok(false),
-        Some(keys) => {
+        Some(files) => {
             let key = line.key(alloc, bytes)?;
-            Ok(!keys.has(&key))
+            files.mark(alloc, &key)
         }
     }
 }

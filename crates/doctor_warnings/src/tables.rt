@@ -2,18 +2,39 @@
 ghost use Rattle.std.specs.Prelude.{◌≡◌, [], ◌∷◌, ◌++◌, IfOk, OnOk, map, option_map};
 ghost use Rattle.topo_links.specs.NetIndex.{Judges};
 ghost use Rattle.place_checks.specs.Sights.{folders_of};
-ghost use Rattle.doctor_warnings.specs.Tables.{both_of, device_of, devices_of, fault_of, is_own, judged, judged_warnings, loaded_file, pair_of, place_warnings, places_told, refused_line, strays_told, table_warnings};
+ghost use Rattle.doctor_warnings.specs.Tables.{both_of, device_of, devices_of, fault_of, is_own, judged, judged_limits, judged_warnings, loaded_file, met_links, pair_of, place_limits, place_warnings, places_told, refused_line, strays_told, table_limits, table_warnings};
 
 use crate::examined::Examined;
 use crate::files::{TextAt, TextFile};
+use crate::limit::{Limit, LimitKind};
 use crate::lines::{nth_line, trimmed};
 use crate::warning::Warning;
 use crate::wiring::Wiring;
 use ios_config::Reading;
 use net_types::{Duplicate, List, Loaded, NoMemory, Text};
-use place_checks::{Folders, Networks, PlaceFinding, StrayNext, place_findings, stray_findings};
+use place_checks::{Folders, LinkFindings, Networks, PlaceFinding, StrayNext, link_findings};
 use std::alloc::Global;
 use topo_links::{LinkFail, LinkRefusal, LinkTable, check, check_own, read_links};
+
+/// What is told of tables.
+#[derive(Drop)]
+pub struct TableNotes {
+    pub warnings: Vec<Warning>,
+    pub limits: Vec<Limit>,
+}
+
+impl TableNotes {
+    /// Nothing yet.
+    pub(crate) fn new(alloc: Global) -> TableNotes
+        ensures warnings { result.warnings.items ≡ [] }
+        ensures limits { result.limits.items ≡ [] }
+    {
+        TableNotes {
+            warnings: Vec::new(alloc),
+            limits: Vec::new(alloc),
+        }
+    }
+}
 
 /// Two networks for which a table is judged.
 #[derive(Clone, Copy)]
@@ -83,21 +104,22 @@ pub(crate) fn both_of<'a>(
 }
 
 /// Adds what is told of a table: its first refusal, by its own words or, where the networks are known, for them; else the places
-/// of the networks that are worth a look.
+/// of the networks that are worth a look, and the limits that its links meet.
 pub(crate) fn add_table(
     alloc: Global,
     wiring: Wiring,
     table: &TextAt,
     nets: Option<Nets<'_>>,
-    warnings: &mut Vec<Warning>,
+    notes: &mut TableNotes,
 ) -> Result<(), NoMemory>
-    ensures { OnOk result (warnings.new.items ≡ warnings.old.items ++ table_warnings wiring table.now.path (option_map pair_of nets.entry) table.now.bytes) }
+    ensures warnings { OnOk result (notes.new.warnings.items ≡ notes.old.warnings.items ++ table_warnings wiring table.now.path (option_map pair_of nets.entry) table.now.bytes) }
+    ensures limits { OnOk result (notes.new.limits.items ≡ notes.old.limits.items ++ table_limits wiring table.now.path (option_map pair_of nets.entry) table.now.bytes) }
 {
     match read_links(alloc, table.bytes.as_slice()) {
-        Ok(links) => add_judged(alloc, wiring, table, nets, &links, warnings),
+        Ok(links) => add_judged(alloc, wiring, table, nets, &links, notes),
         Err(LinkFail::NoMemory) => Err(NoMemory),
         Err(LinkFail::Refused { kind, line, word }) => {
-            add_refused(alloc, table, kind, line, word, warnings)
+            add_refused(alloc, table, kind, line, word, &mut notes.warnings)
         }
     }
 }
@@ -131,16 +153,18 @@ fn add_judged(
     table: &TextAt,
     nets: Option<Nets<'_>>,
     links: &LinkTable,
-    warnings: &mut Vec<Warning>,
+    notes: &mut TableNotes,
 ) -> Result<(), NoMemory>
-    ensures { OnOk result (warnings.new.items ≡ warnings.old.items
+    ensures warnings { OnOk result (notes.new.warnings.items ≡ notes.old.warnings.items
         ++ judged_warnings wiring table.now.path (option_map pair_of nets.entry) table.now.bytes links.now.lines (fault_of (is_own wiring) (option_map pair_of nets.entry) links.now.lines)) }
+    ensures limits { OnOk result (notes.new.limits.items ≡ notes.old.limits.items
+        ++ judged_limits wiring table.now.path (option_map pair_of nets.entry) links.now.lines (fault_of (is_own wiring) (option_map pair_of nets.entry) links.now.lines)) }
 {
     match judge(alloc, wiring, nets, links) {
-        Ok(()) => add_places(alloc, wiring, &table.path, nets, links, warnings),
+        Ok(()) => add_places(alloc, wiring, &table.path, nets, links, notes),
         Err(LinkFail::NoMemory) => Err(NoMemory),
         Err(LinkFail::Refused { kind, line, word }) => {
-            add_refused(alloc, table, kind, line, word, warnings)
+            add_refused(alloc, table, kind, line, word, &mut notes.warnings)
         }
     }
 }
@@ -163,24 +187,49 @@ fn judge(
     }
 }
 
-/// Adds the places that are worth a look and the next hops that no end has, where the networks are known.
+/// Adds the places that are worth a look, the next hops that no end has and the links on Ethernet that are p2p, where the networks
+/// are known.
 fn add_places(
     alloc: Global,
     wiring: Wiring,
     path: &Text,
     nets: Option<Nets<'_>>,
     links: &LinkTable,
-    warnings: &mut Vec<Warning>,
+    notes: &mut TableNotes,
 ) -> Result<(), NoMemory>
-    ensures { OnOk result (warnings.new.items ≡ warnings.old.items ++ place_warnings wiring path.now (option_map pair_of nets.entry) links.now.lines) }
+    ensures warnings { OnOk result (notes.new.warnings.items ≡ notes.old.warnings.items ++ place_warnings wiring path.now (option_map pair_of nets.entry) links.now.lines) }
+    ensures limits { OnOk result (notes.new.limits.items ≡ notes.old.limits.items ++ place_limits wiring path.now (option_map pair_of nets.entry) links.now.lines) }
 {
     let Some(nets) = nets else {
         return Ok(());
     };
-    let found = place_findings(alloc, folders_of(wiring, nets), links)?;
-    add_found(alloc, path, wiring.are_two(), found, warnings)?;
-    let strays = stray_findings(alloc, folders_of(wiring, nets), links)?;
-    add_strays(alloc, path, wiring.are_two(), strays, warnings)
+    let LinkFindings {
+        places,
+        strays,
+        ethernet,
+    } = link_findings(alloc, folders_of(wiring, nets), links)?;
+    add_found(alloc, path, wiring.are_two(), places, &mut notes.warnings)?;
+    add_strays(alloc, path, wiring.are_two(), strays, &mut notes.warnings)?;
+    add_met(alloc, path, &ethernet, &mut notes.limits)
+}
+
+fn add_met(
+    alloc: Global,
+    path: &Text,
+    lines: &[u32],
+    limits: &mut Vec<Limit>,
+) -> Result<(), NoMemory>
+    ensures { OnOk result (limits.new.items ≡ limits.old.items ++ met_links path.now lines.now) }
+{
+    for line in lines {
+        limits.push(Limit {
+            path: path.copy(alloc)?,
+            line: u64::from(*line),
+            words: Text::copy_of(alloc, b"p2p on Ethernet")?,
+            kind: LimitKind::Ethernet,
+        })?;
+    }
+    Ok(())
 }
 
 fn add_strays(

@@ -10,10 +10,8 @@ use place_checks::{PlaceFinding, StrayNext};
 pub enum Reason {
     /// It looks like a command that isn't passed over.
     Looks { look: LookAlike },
-    /// The other folder's file of the same name hasn't this line.
+    /// The other folder's file of the same name hasn't this line, or not so often.
     OnlyHere,
-    /// All such lines are asked for.
-    All,
 }
 
 /// Something to look at before a comparison is believed.
@@ -22,6 +20,19 @@ pub enum Warning {
     /// The folder has no file that is read.
     NoConfigs {
         folder: Text,
+    },
+    /// A file isn't read: its name doesn't end in `.cfg`.
+    Unread {
+        path: Text,
+    },
+    /// The other folder has no file of this one's name.
+    OneFolder {
+        path: Text,
+    },
+    /// A file is refused, since an earlier one of its folder has its hostname.
+    HostTaken {
+        path: Text,
+        first: Text,
     },
     /// A configuration or a link table is refused.
     Refused {

@@ -1,5 +1,5 @@
 -- How findings about a configuration are written, behind its file.
-use Rattle.std.specs.Prelude.{ℕ, List, ◌∷◌, ◌++◌, codes, decimal}
+use Rattle.std.specs.Prelude.{ℕ, List, [], ◌∷◌, ◌++◌, codes, decimal}
 use Rattle.net_types.specs.declared.config.Masked.{Masked}
 use Rattle.net_types.specs.declared.config.Subnet.{Subnet}
 use Rattle.report_text.specs.FieldText.{address_text}
@@ -31,18 +31,29 @@ masked_text m = address_text m.value ++ 32 ∷ address_text m.wild
 abbrev pub way_text : Subnet → ℕ → List ℕ
 way_text p next = codes "route " ++ address_text p.address ++ codes "/" ++ decimal p.length ++ codes " by " ++ address_text next
 
+-- a host that isn't behind its side
+abbrev pub host_text : ℕ → List ℕ
+host_text a = codes "address translation of " ++ address_text a ++ codes ", to which no route leads out of an interface "
+
+-- of a route: what is odd with its next hop; of another finding nothing
+abbrev pub route_text : ConfigFinding → List ℕ
+route_text (finding.NextIsOwn p n) = way_text p n ++ codes ": the next hop is the device itself, so it is never valid"
+route_text (finding.NextNowhere p n) = way_text p n ++ codes ": no route holds the next hop, so it isn't valid"
+route_text (finding.NextByDefault p n) = way_text p n ++ codes ": only a default holds the next hop, so it goes where that leads"
+route_text (finding.NextByItself p n) = way_text p n ++ codes ": the next hop is looked up in the route's own prefix, so one of the choices is a drop"
+route_text (finding.NextElsewhere p i n) = way_text p n ++ codes ": no subnet of interface " ++ shown i ++ codes " holds the next hop"
+route_text (finding.NeverFloats p d n) =
+    way_text p n ++ codes " at distance " ++ decimal d ++ codes ": another route holds the next hop, so the backup never takes over"
+route_text _ = []
+
 abbrev pub config_text : ConfigFinding → List ℕ
 config_text (finding.NoList i d l) = named_text i d l ++ codes ", which isn't there: every packet passes"
 config_text (finding.EmptyList i d l) = named_text i d l ++ codes ", which has no entry: every packet passes"
 config_text (finding.UnusedList l) = codes "nothing names the access list " ++ shown l
 config_text (finding.MaskAsWildcard l sequence f m) =
     codes "entry " ++ decimal sequence ++ codes " of the access list " ++ shown l ++ codes " has a mask for a wildcard: " ++ field_text f ++ masked_text m
-config_text (finding.NextIsOwn p n) = way_text p n ++ codes ": the next hop is the device itself, so it is never valid"
-config_text (finding.NextNowhere p n) = way_text p n ++ codes ": no route holds the next hop, so it isn't valid"
-config_text (finding.NextByDefault p n) = way_text p n ++ codes ": only a default holds the next hop, so it goes where that leads"
-config_text (finding.NextByItself p n) = way_text p n ++ codes ": the next hop is looked up in the route's own prefix, so one of the choices is a drop"
-config_text (finding.NextElsewhere p i n) = way_text p n ++ codes ": no subnet of interface " ++ shown i ++ codes " holds the next hop"
-config_text (finding.NeverFloats p d n) =
-    way_text p n ++ codes " at distance " ++ decimal d ++ codes ": another route holds the next hop, so the backup never takes over"
 config_text finding.NoInside = codes "address translation without an interface inside that is up"
 config_text finding.NoOutside = codes "address translation without an interface outside that is up"
+config_text (finding.NotInside a) = host_text a ++ codes "inside"
+config_text (finding.NotOutside a) = host_text a ++ codes "outside"
+config_text f = route_text f

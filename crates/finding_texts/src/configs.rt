@@ -1,11 +1,20 @@
 //! Findings about a configuration.
 ghost use Rattle.std.specs.Prelude.{◌≡◌, ◌++◌, OnOk};
-ghost use Rattle.finding_texts.specs.ConfigTexts.{config_text, direction_text, field_text, masked_text, named_text, way_text};
+ghost use Rattle.finding_texts.specs.ConfigTexts.{config_text, direction_text, field_text, host_text, masked_text, named_text, route_text, way_text};
 
 use crate::adding::{append, append_address, append_number, append_text};
 use config_checks::{AddressField, ConfigFinding, Direction};
 use net_types::{Masked, NoMemory, Subnet, Text};
 use std::alloc::Global;
+
+const IS_OWN: &[u8] = b": the next hop is the device itself, so it is never valid";
+
+const NOWHERE: &[u8] = b": no route holds the next hop, so it isn't valid";
+
+const BY_DEFAULT: &[u8] = b": only a default holds the next hop, so it goes where that leads";
+
+const BY_ITSELF: &[u8] =
+    b": the next hop is looked up in the route's own prefix, so one of the choices is a drop";
 
 /// A finding.
 pub fn append_config(
@@ -39,41 +48,46 @@ pub fn append_config(
             field,
             address,
         } => append_mask(alloc, out, list, *sequence, *field, *address),
+        ConfigFinding::NoInside => append(
+            out,
+            b"address translation without an interface inside that is up",
+        ),
+        ConfigFinding::NoOutside => append(
+            out,
+            b"address translation without an interface outside that is up",
+        ),
+        ConfigFinding::NotInside { local } => append_host(alloc, out, *local, b"inside"),
+        ConfigFinding::NotOutside { global } => append_host(alloc, out, *global, b"outside"),
+        _ => append_route(alloc, out, finding),
+    }
+}
+
+/// A host that isn't behind its side.
+fn append_host(alloc: Global, out: &mut Vec<u8>, address: u32, side: &[u8]) -> Result<(), NoMemory>
+    ensures { OnOk result (out.new.items ≡ out.old.items ++ (host_text address ++ side.now)) }
+{
+    append(out, b"address translation of ")?;
+    append_address(alloc, out, address)?;
+    append(out, b", to which no route leads out of an interface ")?;
+    append(out, side)
+}
+
+/// What is odd with a route; nothing of another finding.
+fn append_route(alloc: Global, out: &mut Vec<u8>, finding: &ConfigFinding) -> Result<(), NoMemory>
+    ensures { OnOk result (out.new.items ≡ out.old.items ++ route_text finding.now) }
+{
+    match finding {
         ConfigFinding::NextIsOwn { prefix, next } => {
-            append_next(
-                alloc,
-                out,
-                *prefix,
-                *next,
-                b": the next hop is the device itself, so it is never valid",
-            )
+            append_next(alloc, out, *prefix, *next, IS_OWN)
         }
         ConfigFinding::NextNowhere { prefix, next } => {
-            append_next(
-                alloc,
-                out,
-                *prefix,
-                *next,
-                b": no route holds the next hop, so it isn't valid",
-            )
+            append_next(alloc, out, *prefix, *next, NOWHERE)
         }
         ConfigFinding::NextByDefault { prefix, next } => {
-            append_next(
-                alloc,
-                out,
-                *prefix,
-                *next,
-                b": only a default holds the next hop, so it goes where that leads",
-            )
+            append_next(alloc, out, *prefix, *next, BY_DEFAULT)
         }
         ConfigFinding::NextByItself { prefix, next } => {
-            append_next(
-                alloc,
-                out,
-                *prefix,
-                *next,
-                b": the next hop is looked up in the route's own prefix, so one of the choices is a drop",
-            )
+            append_next(alloc, out, *prefix, *next, BY_ITSELF)
         }
         ConfigFinding::NextElsewhere {
             prefix,
@@ -85,14 +99,7 @@ pub fn append_config(
             distance,
             next,
         } => append_floating(alloc, out, *prefix, *distance, *next),
-        ConfigFinding::NoInside => append(
-            out,
-            b"address translation without an interface inside that is up",
-        ),
-        ConfigFinding::NoOutside => append(
-            out,
-            b"address translation without an interface outside that is up",
-        ),
+        _ => Ok(()),
     }
 }
 

@@ -10,5 +10,5 @@ mod strays;
 
 pub use adding::{append, append_number, append_shown};
 pub use configs::append_config;
-pub use places::{append_place, line_of};
+pub use places::{append_finding, line_of};
 pub use strays::append_stray;

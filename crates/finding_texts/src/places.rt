@@ -20,7 +20,7 @@ pub fn line_of(finding: &PlaceFinding) -> u32
 }
 
 /// A finding; `two` where it is about two networks.
-pub fn append_place(out: &mut Vec<u8>, two: bool, finding: &PlaceFinding) -> Result<(), NoMemory>
+pub fn append_finding(out: &mut Vec<u8>, two: bool, finding: &PlaceFinding) -> Result<(), NoMemory>
     ensures { OnOk result (out.new.items ≡ out.old.items ++ place_text two finding.now) }
 {
     match finding {

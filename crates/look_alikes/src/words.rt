@@ -37,7 +37,7 @@ fn begins(command: &[&[u8]], line: &[u8]) -> bool
 }
 
 /// The first word; empty where there is none.
-fn first_word(line: &[u8]) -> &[u8]
+pub(crate) fn first_word(line: &[u8]) -> &[u8]
     ensures { result.now ≡ first_word line.now }
 {
     let rest = from_word(line);
@@ -46,7 +46,7 @@ fn first_word(line: &[u8]) -> &[u8]
 }
 
 /// What follows the first word.
-fn after_word(line: &[u8]) -> &[u8]
+pub(crate) fn after_word(line: &[u8]) -> &[u8]
     ensures { result.now ≡ after_word line.now }
 {
     let rest = from_word(line);

@@ -4,3 +4,4 @@ pub mod Homes
 pub mod Index
 pub mod Sights
 pub mod Strays
+pub mod Ethernet

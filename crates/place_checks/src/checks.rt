@@ -1,14 +1,18 @@
 //! All that is wrong with the links of networks.
 ghost use Rattle.std.specs.Prelude.{◌≡◌, ◌++◌, IfOk, OnOk, flat_map};
+ghost use Rattle.place_checks.specs.Ethernet.{ethernet_links};
 ghost use Rattle.place_checks.specs.Findings.{line_findings, place_findings};
 ghost use Rattle.place_checks.specs.Index.{AreNets};
 ghost use Rattle.place_checks.specs.Sights.{pair_of, folders_of};
+ghost use Rattle.place_checks.specs.Strays.{stray_findings};
 
 use crate::ends::check_line;
+use crate::ethernet::ethernet_links;
 use crate::nets::{Net, Nets};
 use crate::segments::Segments;
+use crate::strays::stray_findings;
 use crate::unlinked::{check_new, check_old};
-use crate::{Networks, PlaceFinding};
+use crate::{Networks, PlaceFinding, StrayNext};
 use net_types::{Loaded, NoMemory};
 use std::alloc::Global;
 use topo_links::{LinkLine, LinkTable};
@@ -24,18 +28,32 @@ pub struct Folders<'a> {
     pub judged: Networks,
 }
 
-/// All that is wrong with the links of the judged networks, in order: by the lines of the table and their ends, and then by
-/// the places of the old network and those that the new one alone has. Each is told once, with the networks in which it is so.
+/// What is found of the links of networks.
+#[derive(Drop)]
+pub struct LinkFindings {
+    /// What is wrong with places, in order: by the lines of the table and their ends, and then by the places of the old network
+    /// and those that the new one alone has. Each is told once, with the networks in which it is so.
+    pub places: Vec<PlaceFinding>,
+    /// The next hops on lans that no end has: lan by lan and end by end, in the order of the routes. Each is told once, with the
+    /// networks in which it is so.
+    pub strays: Vec<StrayNext>,
+    /// The numbers of the lines that are p2p and on Ethernet, where an address of the link's subnet is no end's.
+    pub ethernet: Vec<u32>,
+}
+
+/// All that is found of the links of the judged networks.
 ///
 /// # Errors
 ///
 /// There was no memory.
-pub fn place_findings(
+pub fn link_findings(
     alloc: Global,
     folders: Folders,
     table: &LinkTable,
-) -> Result<Vec<PlaceFinding>, NoMemory>
-    ensures { IfOk result (λ found. found.items ≡ place_findings (folders_of folders.entry) table.now.lines) }
+) -> Result<LinkFindings, NoMemory>
+    ensures places { IfOk result (λ found. found.places.items ≡ place_findings (folders_of folders.entry) table.now.lines) }
+    ensures strays { IfOk result (λ found. found.strays.items ≡ stray_findings (folders_of folders.entry) table.now.lines) }
+    ensures ethernet { IfOk result (λ found. found.ethernet.items ≡ ethernet_links (folders_of folders.entry) table.now.lines) }
 {
     let old = Net::of(alloc, folders.old)?;
     let new = Net::of(alloc, folders.new)?;
@@ -44,9 +62,26 @@ pub fn place_findings(
         new: &new,
         judged: folders.judged,
     };
-    let segments = Segments::of(alloc, table.lines.as_slice())?;
+    let lines = table.lines.as_slice();
+    Ok(LinkFindings {
+        places: place_findings(alloc, nets, lines)?,
+        strays: stray_findings(alloc, nets, lines)?,
+        ethernet: ethernet_links(alloc, nets, lines)?,
+    })
+}
+
+/// All that is wrong with places.
+fn place_findings(
+    alloc: Global,
+    nets: Nets,
+    lines: &[LinkLine],
+) -> Result<Vec<PlaceFinding>, NoMemory>
+    requires { AreNets nets }
+    ensures { IfOk result (λ found. found.items ≡ place_findings (pair_of nets.entry) lines.now) }
+{
+    let segments = Segments::of(alloc, lines)?;
     let mut found = Vec::new(alloc);
-    check_lines(alloc, nets, table.lines.as_slice(), &mut found)?;
+    check_lines(alloc, nets, lines, &mut found)?;
     check_old(alloc, nets, &segments, &mut found)?;
     check_new(alloc, nets, &segments, &mut found)?;
     Ok(found)

@@ -178,7 +178,7 @@ fn any_same(subnets: &[Subnet], subnet: &Subnet) -> bool
 }
 
 /// Whether an interface has the subnet, and isn't shut.
-fn has_subnet(interface: &Interface, subnet: &Subnet) -> bool
+pub(crate) fn has_subnet(interface: &Interface, subnet: &Subnet) -> bool
     ensures { result ≡ has_subnet (live_subnets interface.now) subnet.now }
 {
     if interface.shut {

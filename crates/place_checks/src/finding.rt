@@ -1,3 +1,5 @@
+//! Findings about the links of networks, and in which of the networks each is so.
+
 use net_types::Text;
 
 /// The networks in which something is so, of those that are judged.

@@ -5,7 +5,7 @@ ghost use Rattle.std.specs.Option.{option_copied};
 ghost use Rattle.net_types.specs.Routes.{live_subnets};
 ghost use Rattle.topo_links.specs.Check.{has_value, device_named, interface_at};
 ghost use Rattle.place_checks.specs.Index.{place_in, IsNet, AreNets};
-ghost use Rattle.place_checks.specs.Sights.{folder_of, pair_of, folders_of};
+ghost use Rattle.place_checks.specs.Sights.{folder_of, pair_of};
 ghost use Rattle.place_checks.specs.Strays.{
   holds_address,
   next_over,
@@ -27,14 +27,13 @@ ghost use Rattle.place_checks.specs.Strays.{
 };
 
 use crate::Networks;
-use crate::checks::Folders;
 use crate::nets::{Net, Nets};
 use crate::place::{PlaceRef, copy_place, place_at};
 use indexmap::IndexSet;
 use net_types::{Interface, NoMemory, Route, RouteExit, Subnet, Text};
 use net_view::{has_address, holds, is_enabled, same_text};
 use std::alloc::Global;
-use topo_links::{LinkKind, LinkLine, LinkTable};
+use topo_links::{LinkKind, LinkLine};
 
 /// A next hop over an IP-enabled end of a lan that no end of the lan has, shut or not: what is sent there is delivered out
 /// of the interface, as if it left the network.
@@ -288,22 +287,6 @@ fn is_lan(kind: LinkKind) -> bool
     kind == LinkKind::Lan
 }
 
-/// The lans of a table.
-fn check_lans(
-    alloc: Global,
-    nets: Nets,
-    lines: &[LinkLine],
-    found: &mut Vec<StrayNext>,
-) -> Result<(), NoMemory>
-    requires { AreNets nets }
-    ensures { OnOk result (found.new.items ≡ found.old.items ++ stray_findings (pair_of nets.entry) lines.now) }
-{
-    for line in lines {
-        check_lan(alloc, nets, line, found)?;
-    }
-    Ok(())
-}
-
 /// A line, if it is a lan.
 fn check_lan(
     alloc: Global,
@@ -320,27 +303,18 @@ fn check_lan(
     check_ends(alloc, nets, line, found)
 }
 
-/// The next hops on lans that no end has, in the judged networks: lan by lan and end by end, in the order of the routes. Each
-/// is told once, with the networks in which it is so.
-///
-/// # Errors
-///
-/// There was no memory.
-pub fn stray_findings(
+/// The next hops on lans that no end has.
+pub(crate) fn stray_findings(
     alloc: Global,
-    folders: Folders,
-    table: &LinkTable,
+    nets: Nets,
+    lines: &[LinkLine],
 ) -> Result<Vec<StrayNext>, NoMemory>
-    ensures { IfOk result (λ found. found.items ≡ stray_findings (folders_of folders.entry) table.now.lines) }
+    requires { AreNets nets }
+    ensures { IfOk result (λ found. found.items ≡ stray_findings (pair_of nets.entry) lines.now) }
 {
-    let old = Net::of(alloc, folders.old)?;
-    let new = Net::of(alloc, folders.new)?;
-    let nets = Nets {
-        old: &old,
-        new: &new,
-        judged: folders.judged,
-    };
     let mut found = Vec::new(alloc);
-    check_lans(alloc, nets, table.lines.as_slice(), &mut found)?;
+    for line in lines {
+        check_lan(alloc, nets, line, &mut found)?;
+    }
     Ok(found)
 }

@@ -1,9 +1,9 @@
 //! What is found in configurations.
 
 use crate::networks::shown;
-use crate::stop::Stop;
 use config_checks::{ConfigFinding, config_findings};
 use net_types::{Loaded, Subnet, Text};
+use test_stop::Stop;
 use topo_links::NameIndex;
 
 /// The findings of each device; the list 12 is named elsewhere.
@@ -58,6 +58,8 @@ fn show_finding(rt: &HostRuntime, finding: &ConfigFinding) -> Result<(), Stop> {
         )?,
         ConfigFinding::NoInside => println!(rt; "no inside")?,
         ConfigFinding::NoOutside => println!(rt; "no outside")?,
+        ConfigFinding::NotInside { local } => println!(rt; "not inside {local}")?,
+        ConfigFinding::NotOutside { global } => println!(rt; "not outside {global}")?,
         other => show_next(rt, other)?,
     }
     Ok(())

@@ -1,9 +1,9 @@
 //! Networks of files with several configurations.
 
-use crate::stop::Stop;
 use ios_config::{ConfigFail, Reading, read_config};
 use net_types::{Duplicate, Loaded, Text};
 use std::fs;
+use test_stop::Stop;
 
 /// The configurations of a file, each behind a line `==`. One that is refused is told and left out.
 pub(crate) fn read(rt: &HostRuntime, path: &str) -> Result<Vec<Loaded>, Stop> {

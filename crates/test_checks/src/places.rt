@@ -1,10 +1,10 @@
 //! What is found of links.
 
 use crate::networks::shown;
-use crate::stop::Stop;
 use net_types::{Loaded, Text};
-use place_checks::{Folders, Networks, PlaceFinding, StrayNext, place_findings, stray_findings};
+use place_checks::{Folders, Networks, PlaceFinding, StrayNext, link_findings};
 use std::fs;
+use test_stop::Stop;
 use topo_links::{LinkTable, read_links};
 
 /// The findings by the table of the file `links`, for both networks and for each alone.
@@ -26,11 +26,15 @@ pub(crate) fn show(rt: &HostRuntime, old: &[Loaded], new: &[Loaded]) -> Result<(
 }
 
 fn show_table(rt: &HostRuntime, folders: Folders, table: &LinkTable) -> Result<(), Stop> {
-    for finding in &place_findings(rt.alloc(), folders, table)? {
+    let found = link_findings(rt.alloc(), folders, table)?;
+    for finding in &found.places {
         show_finding(rt, finding)?;
     }
-    for stray in &stray_findings(rt.alloc(), folders, table)? {
+    for stray in &found.strays {
         show_stray(rt, stray)?;
+    }
+    for line in &found.ethernet {
+        println!(rt; "line {line} on Ethernet")?;
     }
     Ok(())
 }

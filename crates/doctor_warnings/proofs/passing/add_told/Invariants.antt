@@ -1,7 +1,7 @@
-use Rattle.std.proofs.Common.{◌≡◌, ◌++◌, take}
-use Rattle.std.specs.List.{flat_map}
-use Rattle.doctor_warnings.specs.Warnings.{passed_warnings}
+use Rattle.std.proofs.Common.{◌≡◌, ◌++◌, ◌∷◌, [], ℕ, List, map, take, drop}
+use Rattle.std.specs.Prelude.{Option}
+use Rattle.doctor_warnings.specs.Beside.{IsBeside, IsGone}
 use Rattle.doctor_warnings.proofs.passing.add_told.Given as goal
 
 abbrev pub invariant-loop-line : goal.invariant-loop-line
-invariant-loop-line l = l.warnings.items ≡ l.fn.warnings.items ++ flat_map (passed_warnings l.beside.all l.beside.other l.path l.bytes) (take l.line-index l.told)
+invariant-loop-line l = (ks : Option (List (List ℕ))) → IsBeside ks [] l.initial.beside → IsGone ks l.path l.bytes l.told l.line-index l.initial.warnings.items l.warnings.items l.beside

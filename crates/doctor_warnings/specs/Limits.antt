@@ -1,0 +1,24 @@
+-- The limits of the model that a network meets, as far as what is refused tells them.
+use Rattle.std.specs.Prelude.{ℕ, List, Option, Some, None, filter_map, codes, if◌then◌else◌}
+use Rattle.std.specs.Str.{bytes_eq}
+use Rattle.look_alikes.specs.Naming.{is_prepared, refused_by}
+use Rattle.doctor_warnings.specs.declared.limit.Limit.{Limit}
+use Rattle.doctor_warnings.specs.declared.limit.LimitKind.{LimitKind}
+use Rattle.doctor_warnings.specs.declared.limit.LimitKind.TheVariants as limit
+use Rattle.doctor_warnings.specs.declared.warning.Warning.{Warning}
+use Rattle.doctor_warnings.specs.declared.warning.Warning.TheVariants as warning
+
+abbrev pub refused_kind : List ℕ → LimitKind
+refused_kind word = if is_prepared word then limit.Prepared else limit.Refused
+
+-- a line that is refused because its command isn't covered
+abbrev pub limit_at : List ℕ → ℕ → List ℕ → List ℕ → List ℕ → Option Limit
+limit_at path n k word text =
+    if bytes_eq k (codes "NotCovered") then Some (record { path = path; line = n; words = refused_by text word; kind = refused_kind word }) else None
+
+abbrev pub limit_of : Warning → Option Limit
+limit_of (warning.Refused path n k word text) = limit_at path n k word text
+limit_of _ = None
+
+abbrev pub refused_limits : List Warning → List Limit
+refused_limits ws = filter_map limit_of ws

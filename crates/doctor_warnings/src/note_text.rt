@@ -1,0 +1,167 @@
+//! How limits of the model and lines that are passed over are written: counted by their words, and lines one by one.
+//!
+//! Each function adds a text at the end. Where memory runs out, a part of it may stand there.
+ghost use Rattle.std.specs.Prelude.{◌≡◌, ◌++◌, OnOk, slice_get};
+ghost use Rattle.std.specs.List.{flat_map};
+ghost use Rattle.std.specs.Option.{option_copied};
+ghost use Rattle.doctor_warnings.specs.Texts.{count_text, counted_if_any, counted_line, kind_text, limit_by, limit_line, limits_text, listed_line};
+
+use crate::heads::{append_behind, append_head, append_place};
+use crate::limit::{Limit, LimitKind};
+use crate::listing::ListedLine;
+use crate::network::Notes;
+use finding_texts::{append, append_number, append_shown};
+use net_types::{NoMemory, Text};
+use std::alloc::Global;
+use text_tallies::Tally;
+
+/// The limits, where there is a warning or all is asked for.
+pub(crate) fn append_limits_if(
+    alloc: Global,
+    out: &mut Vec<u8>,
+    all: bool,
+    notes: &Notes,
+    rows: &[Tally],
+) -> Result<(), NoMemory>
+    ensures { OnOk result (out.new.items ≡ out.old.items ++ limits_text all notes.now.warnings (flat_map (limit_line notes.now.limits) rows.now)) }
+{
+    if !all && notes.warnings.as_slice().is_empty() {
+        return Ok(());
+    }
+    append_limits(alloc, out, notes.limits.as_slice(), rows)
+}
+
+fn append_limits(
+    alloc: Global,
+    out: &mut Vec<u8>,
+    limits: &[Limit],
+    rows: &[Tally],
+) -> Result<(), NoMemory>
+    ensures { OnOk result (out.new.items ≡ out.old.items ++ flat_map (limit_line limits.now) rows.now) }
+{
+    for row in rows {
+        append_limit(alloc, out, row, limit_in(limits, row.first))?;
+    }
+    Ok(())
+}
+
+fn limit_in(limits: &[Limit], place: usize) -> Option<&Limit>
+    ensures { option_copied result ≡ slice_get limits.now place }
+{
+    limits.get(place)
+}
+
+/// A limit, with how often it is met.
+fn append_limit(
+    alloc: Global,
+    out: &mut Vec<u8>,
+    row: &Tally,
+    limit: Option<&Limit>,
+) -> Result<(), NoMemory>
+    ensures { OnOk result (out.new.items ≡ out.old.items ++ limit_by row.now (option_copied limit.entry)) }
+{
+    let Some(limit) = limit else {
+        return Ok(());
+    };
+    append(out, b"limit: ")?;
+    append_shown(out, row.text.as_bytes())?;
+    append_count(alloc, out, row.count, &limit.path, limit.line)?;
+    append_kind(out, limit.kind)?;
+    append(out, b"\n")
+}
+
+/// How many there are, and where the first one is.
+fn append_count(
+    alloc: Global,
+    out: &mut Vec<u8>,
+    count: u64,
+    path: &Text,
+    line: u64,
+) -> Result<(), NoMemory>
+    ensures { OnOk result (out.new.items ≡ out.old.items ++ count_text count path.now line) }
+{
+    append(out, b" (")?;
+    append_number(alloc, out, count)?;
+    append(out, b"), first ")?;
+    append_place(alloc, out, path, line)
+}
+
+fn append_kind(out: &mut Vec<u8>, kind: LimitKind) -> Result<(), NoMemory>
+    ensures { OnOk result (out.new.items ≡ out.old.items ++ kind_text kind) }
+{
+    match kind {
+        LimitKind::Ethernet => append(
+            out,
+            b": a packet to an unused address of the subnet, as its first one, goes to and fro until it expires; GUIDE.md, section 7",
+        ),
+        LimitKind::Prepared => append(
+            out,
+            b": refused; prepare brings it into what is read; GUIDE.md, section 15",
+        ),
+        LimitKind::Refused => append(
+            out,
+            b": refused, since it isn't in the model; GUIDE.md, section 14",
+        ),
+    }
+}
+
+/// The lines that are passed over, counted by their words.
+pub(crate) fn append_counted(
+    alloc: Global,
+    out: &mut Vec<u8>,
+    lines: &[ListedLine],
+    rows: &[Tally],
+) -> Result<(), NoMemory>
+    ensures { OnOk result (out.new.items ≡ out.old.items ++ flat_map (counted_line lines.now) rows.now) }
+{
+    for row in rows {
+        append_row(alloc, out, row, line_in(lines, row.first))?;
+    }
+    Ok(())
+}
+
+fn line_in(lines: &[ListedLine], place: usize) -> Option<&ListedLine>
+    ensures { option_copied result ≡ slice_get lines.now place }
+{
+    lines.get(place)
+}
+
+fn append_row(
+    alloc: Global,
+    out: &mut Vec<u8>,
+    row: &Tally,
+    line: Option<&ListedLine>,
+) -> Result<(), NoMemory>
+    ensures { OnOk result (out.new.items ≡ out.old.items ++ counted_if_any row.now (option_copied line.entry)) }
+{
+    let Some(line) = line else {
+        return Ok(());
+    };
+    append(out, b"passed over: ")?;
+    append_shown(out, row.text.as_bytes())?;
+    append_count(alloc, out, row.count, &line.path, line.line)?;
+    append(out, b"\n")
+}
+
+/// The lines that are passed over, one by one.
+pub(crate) fn append_listed(
+    alloc: Global,
+    out: &mut Vec<u8>,
+    lines: &[ListedLine],
+) -> Result<(), NoMemory>
+    ensures { OnOk result (out.new.items ≡ out.old.items ++ flat_map listed_line lines.now) }
+{
+    for line in lines {
+        append_line(alloc, out, line)?;
+    }
+    Ok(())
+}
+
+fn append_line(alloc: Global, out: &mut Vec<u8>, line: &ListedLine) -> Result<(), NoMemory>
+    ensures { OnOk result (out.new.items ≡ out.old.items ++ listed_line line.now) }
+{
+    append_head(alloc, out, &line.path, line.line)?;
+    append(out, b"passed over")?;
+    append_behind(out, &line.text)?;
+    append(out, b"\n")
+}
