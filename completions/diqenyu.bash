@@ -69,8 +69,10 @@ _diqenyu() {
             ;;
         *view)
             files=1
-            [ "${#given[@]}" = 0 ] && options='--html --json --csv --title --help --version'
+            [ "${#given[@]}" = 0 ] && options='--html --json --csv --title --audit --answers --traces --why --why-all --help --version'
             [ "${#given[@]}" = 1 ] && options=--title
+            [ "$COMP_CWORD" -gt 1 ] && [ "${COMP_WORDS[1]}" = --audit ] && options='--html --json --csv --rows'
+            [ "$COMP_CWORD" -gt 1 ] && [ "${COMP_WORDS[1]}" = --answers ] && options='--html --json --csv --junit'
             ;;
     esac
     if [ -z "$only" ] && [[ $word == -* ]]; then

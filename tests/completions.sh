@@ -65,7 +65,10 @@ offers "--ttl" review trace --t
 offers "--workers" review gen 7 --
 offers "" review read --
 offers "" review compare --workers ""
-offers "--csv --help --html --json --title --version" view --
+offers "--answers --audit --csv --help --html --json --title --traces --version --why --why-all" view --
+offers "--csv --html --json --rows" view --audit --
+offers "--csv --html --json --rows" view --audit --json --
+offers "--csv --html --json --junit" view --answers --
 offers "--all" doctor $campus/old --
 offers "--all --help --version" doctor --
 offers "$campus/links" doctor $campus/old $campus/new $campus/li

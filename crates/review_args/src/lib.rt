@@ -8,5 +8,6 @@ mod parts;
 mod reader;
 mod request;
 
+pub use numbers::header;
 pub use reader::read_words;
 pub use request::{Asking, Comparison, Job, Packet, Request, Tracing, WordsFail};
