@@ -17,6 +17,8 @@ struct Change {
 
 /// 172.16.0.0
 pub(crate) const PRIVATE: u32 = 0xac10_0000;
+/// 172.0.0.0
+const AROUND: u32 = 0xac00_0000;
 /// 192.168.0.0
 const OFFICE: u32 = 0xc0a8_0000;
 
@@ -40,12 +42,13 @@ fn dropped(device: u32, address: u32, length: u8) -> Change {
 
 /// Prints for each case what each of its edits leaves alone and walks again, and how many rows the report has then.
 pub(crate) fn show(rt: &HostRuntime) -> io::Result<()> {
-    // What neither router knows meets the second one by the loop alone. It is walked once, whatever it was cut into before.
+    // What neither router knows meets the second one by the loop alone. What an edit gives back stays a region of its own, and is
+    // walked together with what lies round it where a later edit changes the moves of both.
     let by_loop = [
         added(1, PRIVATE, 12),
         dropped(1, PRIVATE, 12),
-        added(1, PRIVATE, 12),
-        dropped(1, PRIVATE, 12),
+        added(1, AROUND, 8),
+        dropped(1, AROUND, 8),
     ];
     show_case(rt, "met by a loop alone", Plan::Pair, &by_loop)?;
     // The third router drops in any case what only one of the two choices sends there.
