@@ -22,7 +22,7 @@ use std::alloc::Global;
 use std::marker::{Brand, PhantomData};
 use std::sync::Wait;
 use std::thread::Threads;
-use steal_pool::{Gate, Workers, roots_of, run};
+use steal_pool::{Gate, Workers, run, whole_slots};
 use table_twins::{Base, Twins};
 
 /// The answers to the questions, in their order. A slot is worked on by one worker; what all share is made before.
@@ -108,16 +108,4 @@ fn answers_shared<K: Asking + Base + Send + Sync, G: Gate + Sync, R: Threads + W
     let leaves = run(by, alloc, roots.as_slice(), splitter)?;
     let answers = answers_of_leaves(alloc, asked, &leaves)?;
     Ok(answers)
-}
-
-// All headers in each slot.
-fn whole_slots(alloc: Global, slots: usize) -> Result<Vec<Region>, NoMemory>
-    requires { slots < 2 ^ 32 }
-    ensures few { IfOk result (λ roots. length roots.items ≡ slots) }
-    ensures apart { IfOk result (λ roots. AllPairs LieApart roots.items) }
-    ensures whole { IfOk result (λ roots. (k h : ℕ) → k < slots → Any (Holds k h) roots.items) }
-{
-    let cubes = vec![in alloc; Cube::all(); slots]?;
-    let roots = roots_of(alloc, cubes.as_slice())?;
-    Ok(roots)
 }

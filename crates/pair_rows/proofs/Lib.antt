@@ -3,4 +3,3 @@ pub mod ListLemmas
 pub mod OrderLemmas
 pub mod RowLemmas
 pub mod SlotLemmas
-pub mod RootLemmas

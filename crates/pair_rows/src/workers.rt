@@ -16,7 +16,7 @@ use std::alloc::Global;
 use std::marker::PhantomData;
 use std::sync::Wait;
 use std::thread::Threads;
-use steal_pool::{Gate, Workers, roots_of, run};
+use steal_pool::{Gate, Workers, run, whole_slots};
 
 // How many rows of a region are read off at once where the region may be divided among workers.
 const ROWS_AT_ONCE: usize = 1_024;
@@ -67,16 +67,4 @@ fn empty_cells<K: Pairing>(
         cells.push(OnceBox::new(alloc))?;
     }
     Ok(cells)
-}
-
-// All headers in each slot.
-fn whole_slots(alloc: Global, slots: usize) -> Result<Vec<Region>, NoMemory>
-    requires { slots < 2 ^ 32 }
-    ensures few { IfOk result (λ roots. length roots.items ≡ slots) }
-    ensures apart { IfOk result (λ roots. AllPairs LieApart roots.items) }
-    ensures whole { IfOk result (λ roots. (k h : ℕ) → k < slots → Any (Holds k h) roots.items) }
-{
-    let cubes = vec![in alloc; Cube::all(); slots]?;
-    let roots = roots_of(alloc, cubes.as_slice())?;
-    Ok(roots)
 }

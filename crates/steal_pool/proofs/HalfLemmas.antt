@@ -1,6 +1,6 @@
 -- The two halves of a region divide it.
 use Rattle.std.proofs.Common.{ℕ, ◌≡◌, ◌<◌, ◌↔◌, inl, inr, [], ◌∷◌, Option, None, refl, sym, ◌∙◌, subst, arith}
-use Rattle.std.specs.Prelude.{IsSome}
+use Rattle.std.specs.Prelude.{IsSome, IsNone}
 use Rattle.std.proofs.lemmas.List.Elements.{All-nil, All-cons}
 use Rattle.std.proofs.lemmas.Bool.{cases_eq}
 use Rattle.hdr_bits.specs.Bits.{bit_of}
@@ -24,6 +24,18 @@ halves_divide region low high k within star a b zero_half one_half zero_digit on
         | inl e ↦ (0, low, omega arith, refl, record { same_slot = a ∙ i.same_slot; member = (zero_half h).1 (i.member, e) })
         | inr n ↦ let e : bit_of h k ≡ 1 = omega (arith, n) in (1, high, omega arith, refl, record { same_slot = b ∙ i.same_slot; member = (one_half h).1 (i.member, e) })
       ];
-      finer = All-cons (FixesMore region) low (high ∷ []) (record { at = k; within = within; star = star; digit = subst IsSome (sym zero_digit.there) refl })
-          (All-cons (FixesMore region) high [] (record { at = k; within = within; star = star; digit = subst IsSome (sym one_digit.there) refl }) (All-nil (FixesMore region)));
+      finer = All-cons (FixesMore region) low (high ∷ []) (finer low 0 zero_digit) (All-cons (FixesMore region) high [] (finer high 1 one_digit) (All-nil (FixesMore region)));
+    }
+  where
+    -- a half has the digit at bit k, and is as the region at each other bit
+    finer : (half : Region) (b : ℕ) → HasDigit k b region.cube half.cube → FixesMore region half
+    finer half b digit = record {
+      at = k;
+      within = within;
+      star = star;
+      digit = subst IsSome (sym digit.there) refl;
+      others = λ i lt s. elim (cases_eq i k) [
+        | inl e ↦ subst (IsStar region.cube) (sym e) star
+        | inr n ↦ subst IsNone (digit.others i lt n) s
+      ];
     }

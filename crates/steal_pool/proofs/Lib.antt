@@ -7,3 +7,5 @@ pub mod PieceLemmas
 pub mod PushLemmas
 pub mod HalfLemmas
 pub mod RootLemmas
+pub mod WholeLemmas
+pub mod Measures

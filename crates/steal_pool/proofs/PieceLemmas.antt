@@ -1,19 +1,18 @@
 -- What the work on one part adds to the pieces of a region.
 use Rattle.std.proofs.Common.{ℕ, ◌≡◌, ◌+◌, ◌≤◌, List, [], ◌∷◌, ◌++◌, length, map, Option, refl, sym, ap, subst, append-nil, length-append, arith, All, AllPairs, Any}
-use Rattle.std.proofs.lemmas.List.{length-map}
-use Rattle.std.proofs.lemmas.List.Elements.{All-nil, All-cons}
-use Rattle.std.proofs.lemmas.List.Kept.{AllPairs-cons}
+use Rattle.std.proofs.lemmas.List.{length-map, map-append}
+use Rattle.std.proofs.lemmas.List.Elements.{All-nil, All-head, All-append, All-weaker}
 use Rattle.chunk_rope.specs.Shown.{Shown}
 use Rattle.cube_alg.specs.declared.Region.{Region}
 use Rattle.task_board.specs.declared.leaf.Leaf.{Leaf}
 use Rattle.task_board.specs.declared.leaf.Part.{Part}
 use Rattle.task_board.specs.Regions.{Holds, LieApart, LiesWithin}
 use Rattle.task_board.specs.Stands.{part_of, IsRight, IsWorked}
-use Rattle.task_board.proofs.Pairs.{pairs_nil}
+use Rattle.task_board.proofs.Pairs.{all_left, all_right}
 use Rattle.task_board.proofs.Worked.{worked_nothing, worked_whole, worked_parts}
 use Rattle.task_board.proofs.Joined.{worked_step}
-use Rattle.steal_pool.specs.Work.{HasNone, Divide}
-use Rattle.steal_pool.specs.Pieces.{AddsWork}
+use Rattle.steal_pool.specs.Work.{FixesMore, HasNone, Divide}
+use Rattle.steal_pool.specs.Pieces.{AreFiner, AddsWork}
 
 -- the parts that are to be opened have these regions
 pub part_regions : (rs : List Region) → map (λ (p : Part). p.region) (map (λ (r : Region). part_of r 0) rs) ≡ rs
@@ -26,6 +25,7 @@ module _ {V : Type 0} (gives : ℕ → ℕ → Option V) (region : Region) where
     leaves = [];
     parts = [];
     worked = worked_nothing gives region none.none;
+    finer = All-nil (FixesMore region);
     finished = sym (append-nil old.items);
     rest = sym (append-nil parts);
     counted = refl;
@@ -38,6 +38,7 @@ module _ {V : Type 0} (gives : ℕ → ℕ → Option V) (region : Region) where
     leaves = record { region = region; value = value } ∷ [];
     parts = [];
     worked = worked_whole gives region value right.value;
+    finer = All-nil (FixesMore region);
     finished = items;
     rest = sym (append-nil parts);
     counted = refl;
@@ -51,6 +52,7 @@ module _ {V : Type 0} (gives : ℕ → ℕ → Option V) (region : Region) where
         leaves = [];
         parts = parts;
         worked = worked_parts gives region parts (subst (AllPairs LieApart) (sym same) divide.apart) (subst (All (λ r. LiesWithin r region)) (sym same) divide.inside) (λ slot h lt i. subst (Any (Holds slot h)) (sym same) (divide.covers slot h i));
+        finer = subst (All (FixesMore region)) (sym same) divide.finer;
         finished = sym (append-nil old.items);
         rest = rest;
         counted = omega (arith, counted, many);
@@ -79,8 +81,23 @@ module _ {V : Type 0} (gives : ℕ → ℕ → Option V) (region : Region) where
       let e : length new.items ≡ length (old.items ++ adds.leaves) = ap (λ (ls : List (Leaf V)). length ls) adds.finished in
       let r = adds.room in omega (arith, a, e, r, room)
 
-  -- a region that nothing was done with is its own one part
-  pub worked_first : (leaves : List (Leaf V)) (parts : List Part) → leaves ≡ [] → parts ≡ part_of region 0 ∷ [] → IsWorked gives region leaves parts
-  worked_first leaves parts none one =
-      subst (λ (ls : List (Leaf V)). IsWorked gives region ls parts) (sym none)
-      (subst (λ (ps : List Part). IsWorked gives region [] ps) (sym one) (worked_parts gives region (part_of region 0 ∷ []) (AllPairs-cons LieApart region [] (All-nil (LieApart region)) (pairs_nil LieApart)) (All-cons (λ r. LiesWithin r region) region [] (record { within = λ slot h i. i }) (All-nil (λ r. LiesWithin r region))) (λ slot h lt i. (0, region, omega arith, refl, i))))
+-- the second of three regions has more fixed bits than the first, and the third than the second
+fixes_on : (r s t : Region) → FixesMore r s → FixesMore s t → FixesMore r t
+fixes_on r s t f g = record {
+  at = g.at;
+  within = g.within;
+  star = f.others g.at g.within g.star;
+  digit = g.digit;
+  others = λ k lt e. f.others k lt (g.others k lt e);
+}
+
+-- what came of a part that has more fixed bits than the region has more of them too
+pub finer_on : {V : Type 0} (gives : ℕ → ℕ → Option V) (r : Region) (p : Part) (old new : Shown (Leaf V)) (all before after : List Part) (count : ℕ) → all ≡ before ++ p ∷ [] → AddsWork gives p.region old new before after count → AreFiner r all → AreFiner r after
+finer_on gives r p old new all before after count is adds finer =
+    let F = FixesMore r in
+    let rs = map (λ (q : Part). q.region) before in
+    let both = subst (All F) (map-append (λ (q : Part). q.region) before (p ∷ [])) (subst (AreFiner r) is finer) in
+    subst (AreFiner r) (sym adds.rest)
+    (subst (All F) (sym (map-append (λ (q : Part). q.region) before adds.parts))
+    (All-append F rs (map (λ (q : Part). q.region) adds.parts) (all_left F rs (p.region ∷ []) both)
+    (All-weaker (FixesMore p.region) F (λ t g. fixes_on r p.region t (All-head F p.region [] (all_right F rs (p.region ∷ []) both)) g) (map (λ (q : Part). q.region) adds.parts) adds.finer)))

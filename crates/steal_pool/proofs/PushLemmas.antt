@@ -1,5 +1,5 @@
 -- Parts that are pushed one after the other.
-use Rattle.std.proofs.Common.{ℕ, ◌≡◌, ◌+◌, ◌-◌, ◌≤◌, ◌<◌, ◌↔◌, List, [], ◌∷◌, ◌++◌, length, map, take, min, true≢false, refl, sym, ap, ◌∙◌, append-nil, append_assoc, length-append, arith}
+use Rattle.std.proofs.Common.{ℕ, true, false, is_ok, ◌≡◌, ◌+◌, ◌-◌, ◌≤◌, ◌<◌, ◌↔◌, List, [], ◌∷◌, ◌++◌, length, map, take, min, true≢false, refl, sym, ap, ◌∙◌, append-nil, append_assoc, length-append, arith}
 use Rattle.std.proofs.lemmas.List.{map-append, length-map, length-take, take_all, take-append-le}
 use Rattle.std.specs.Prelude.{Result, IsErr, MatchResult}
 use Rattle.std.specs.declared.result.Result.TheVariants.{Ok, Err}
@@ -61,3 +61,13 @@ pub pushes_more : (old mid new : OwnerSeat) (parts : List Part) (p : Part) (r : 
     → MatchResult r (λ place. (place ≡ length mid.pushed) × (new ≡ record mid { pushed = mid.pushed ++ record { place = place; ticket = p.ticket; region = p.region } ∷ [] })) (λ s. (s ≡ p.region) × (new ≡ mid)) → PushesParts old new (parts ++ p ∷ [])
 pushes_more old mid new parts p (Ok place) before full rule = pushes_one old mid new parts p before (record { place = place; ticket = p.ticket; region = p.region }) (λ l. true≢false (sym (full.1 l))) rule.1 (λ i. p)
 pushes_more old mid new parts p (Err s) before full rule = pushes_full old mid new parts p before (full.0 refl) rule.1
+
+-- a push that was taken is one more
+pub push_counts : (mid new : OwnerSeat) (p : Part) (r : Result ℕ Region)
+    → MatchResult r (λ place. (place ≡ length mid.pushed) × (new ≡ record mid { pushed = mid.pushed ++ record { place = place; ticket = p.ticket; region = p.region } ∷ [] })) (λ s. (s ≡ p.region) × (new ≡ mid))
+    → (is_ok r ≡ true → length new.pushed ≡ length mid.pushed + 1) × (is_ok r ≡ false → length new.pushed ≡ length mid.pushed)
+push_counts mid new p (Ok place) rule =
+    let task : Task = record { place = place; ticket = p.ticket; region = p.region } in
+    let n : length new.pushed ≡ length (mid.pushed ++ task ∷ []) = ap (λ (s : OwnerSeat). length s.pushed) rule.1 in
+    let m = length-append mid.pushed (task ∷ []) in (λ t. omega (arith, n, m), λ f. absurd cc)
+push_counts mid new p (Err s) rule = (λ t. absurd cc, λ f. ap (λ (s : OwnerSeat). length s.pushed) rule.1)

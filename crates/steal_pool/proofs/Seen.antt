@@ -1,5 +1,5 @@
 -- What a step means for the seat that contracts see.
-use Rattle.std.proofs.Common.{◌≡◌, ℕ, [], ◌∷◌, ◌++◌, refl, ap, arith}
+use Rattle.std.proofs.Common.{◌≡◌, ◌<◌, ◌⊎◌, inl, inr, ℕ, [], ◌∷◌, ◌++◌, refl, ap, arith}
 use Rattle.std.specs.Prelude.{Option, MatchOption, IfNone}
 use Rattle.std.specs.declared.option.Option.TheVariants.{None, Some}
 use Rattle.std.specs.declared.alloc.Global.{Global}
@@ -22,11 +22,11 @@ pub drained : (v w : View) (r : Option Task) → MatchOption r ((w ≡ v) × (Wa
 drained v w None m = λ all h. let e = m.1.1 all h in omega (arith, e)
 drained v w (Some t) m = tt
 
-pub stole : (lane : RowsId × Global) (k : ℕ) (v w : View) (late : Type 0) (r : Steal Task) → MatchSteal r ((w ≡ v) × WasEmpty v) ((w ≡ v) × late) (λ t. TakesFirst v (t ∷ []) w)
-    → MatchSteal r ((thief_of lane k w ≡ thief_of lane k v) × Finds v.taken) (thief_of lane k w ≡ thief_of lane k v) (λ t. (thief_of lane k w ≡ record (thief_of lane k v) { taken = v.taken ++ t ∷ [] }) × Takes v.taken t)
-stole lane k v w late Empty m = (ap (thief_of lane k) m.0, (v, refl, m.1))
-stole lane k v w late (Success t) m = (ap (thief_of lane k) m.6, (v, w, refl, m))
-stole lane k v w late Retry m = ap (thief_of lane k) m.0
+pub stole : (lane : RowsId × Global) (k m n : ℕ) (v w : View) (r : Steal Task) → MatchSteal r ((w ≡ v) × WasEmpty v) ((w ≡ v) × ((m < n) ⊎ WasEmpty v)) (λ t. TakesFirst v (t ∷ []) w)
+    → MatchSteal r ((thief_of lane k n w ≡ thief_of lane k n v) × Finds v.taken) ((thief_of lane k n w ≡ thief_of lane k n v) × ((m < n) ⊎ Finds v.taken)) (λ t. (thief_of lane k n w ≡ record (thief_of lane k n v) { taken = v.taken ++ t ∷ [] }) × Takes v.taken t)
+stole lane k m n v w Empty now = (ap (thief_of lane k n) now.0, (v, refl, now.1))
+stole lane k m n v w (Success t) now = (ap (thief_of lane k n) now.6, (v, w, refl, now))
+stole lane k m n v w Retry now = (ap (thief_of lane k n) now.0, elim now.1 [ inl later ↦ inl later | inr empty ↦ inr (v, refl, empty) ])
 
 pub kept : (v w : View) (late : Type 0) (r : Steal Task) → MatchSteal r ((w ≡ v) × WasEmpty v) ((w ≡ v) × late) (λ t. TakesFirst v (t ∷ []) w) → w.paths ≡ v.paths
 kept v w late Empty m = ap (λ (y : View). y.paths) m.0

@@ -19,6 +19,8 @@ pub record ThiefSeat : Type 0 where
   pub lane : RowsId × Global
   pub taken : List Task
   pub path : Path
+  -- how many tasks it knows to have left the lane
+  pub gone : ℕ
 
 abbrev pub owner_of : RowsId × Global → ℕ → View → OwnerSeat
 owner_of lane capacity v = record { lane = lane; capacity = capacity; pushed = v.pushed; taken = v.taken; paths = v.paths }
@@ -44,5 +46,5 @@ Takes taken t = (v : View) × (w : View) × (v.taken ≡ taken) × TakesFirst v 
 abbrev pub Finds : List Task → Type 0
 Finds taken = (v : View) × (v.taken ≡ taken) × WasEmpty v
 
-abbrev pub thief_of : RowsId × Global → ℕ → View → ThiefSeat
-thief_of lane k v = record { lane = lane; taken = v.taken; path = path_before k v.paths }
+abbrev pub thief_of : RowsId × Global → ℕ → ℕ → View → ThiefSeat
+thief_of lane k gone v = record { lane = lane; taken = v.taken; path = path_before k v.paths; gone = gone }

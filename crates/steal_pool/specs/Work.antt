@@ -7,15 +7,16 @@ use Rattle.task_board.specs.Stands.{IsRight}
 use Rattle.steal_pool.specs.declared.splitter.Worked.{Worked}
 use Rattle.steal_pool.specs.declared.splitter.Worked.TheVariants.{Nothing, Whole, Parts}
 
--- the second has a digit at a bit where the first has `*`
+-- the second has a digit at a bit where the first has `*`, and has no `*` where the first has none
 pub record FixesMore (r s : Region) : Type 0 where
   pub at : ℕ
   pub within : at < 112
   pub star : IsStar r.cube at
   pub digit : IsSome (digit_at s.cube at)
+  pub others : (k : ℕ) → k < 112 → IsStar s.cube k → IsStar r.cube k
 
 -- The parts are 2 to 113 regions, pairwise disjoint, and they cover the region exactly. Each has more fixed bits
--- than the region, since it lies within it and fixes one more
+-- than the region
 pub record Divide (region : Region) (parts : List Region) : Type 0 where
   pub several : 2 ≤ length parts
   pub few : length parts ≤ 113

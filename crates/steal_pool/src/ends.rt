@@ -1,6 +1,6 @@
 //! The two ends of a lane: the owner, and its thieves.
 
-ghost use Rattle.std.specs.Prelude.{◌≡◌, ◌<◌, ◌≤◌, ◌+◌, ◌-◌, ◌/◌, ◌∷◌, ◌++◌, ◌^◌, ◌↔◌, ℕ, All, vec_len, [], List, length, take, drop, true, false, IfOk, IfErr, IfSome, IfNone, OnOk, OnErr, IsErr, MatchOption, MatchResult};
+ghost use Rattle.std.specs.Prelude.{◌≡◌, ◌⊎◌, ◌<◌, ◌≤◌, ◌+◌, ◌-◌, ◌/◌, ◌∷◌, ◌++◌, ◌^◌, ◌↔◌, ℕ, All, vec_len, [], List, length, take, drop, true, false, IfOk, IfErr, IfSome, IfNone, OnOk, OnErr, IsErr, MatchOption, MatchResult};
 ghost use Rattle.crossbeam_deque.specs.Handles.{view, IsPassOf};
 ghost use Rattle.crossbeam_deque.specs.Steals.{MatchSteal};
 ghost use Rattle.steal_pool.specs.declared.rule.Task.{Task};
@@ -51,8 +51,8 @@ impl Model for Owner {
 
 /// An end of a lane from which another thread takes.
 ///
-/// Contracts see its lane, the tasks that it took, and its path, which is its share of the lane: the first thief has the
-/// empty path, and a split turns a path into its two extensions.
+/// Contracts see its lane, the tasks that it took, how many it knows to have left the lane, and its path, which is its share of the
+/// lane: the first thief has the empty path, and a split turns a path into its two extensions.
 #[derive(Drop)]
 pub struct Thief {
     stealer: Stealer<Task, Global, View, LaneRule>,
@@ -63,13 +63,13 @@ pub struct Thief {
 
 impl Model for Thief {
     ghost use Rattle.std.specs.Prelude.{◌≡◌, ◌∷◌, [], All};
-    ghost use Rattle.crossbeam_deque.specs.Handles.{view as seen, stealer_deque, stealer_flavor, IsPassOf};
+    ghost use Rattle.crossbeam_deque.specs.Handles.{view as seen, taken as known, stealer_deque, stealer_flavor, IsPassOf};
     ghost use Rattle.steal_pool.specs.Paths.{extensions};
     ghost use Rattle.steal_pool.specs.Seats.{ThiefSeat, port_paths, singles, path_before};
 
     ghost Value = { ThiefSeat };
 
-    ghost view = { λ s. record { lane = stealer_deque s.stealer; taken = (seen s.pass).taken; path = path_before s.levels (seen s.pass).paths } };
+    ghost view = { λ s. record { lane = stealer_deque s.stealer; taken = (seen s.pass).taken; path = path_before s.levels (seen s.pass).paths; gone = known s.pass } };
 
     ghost invariant = { λ s. (stealer_flavor s.stealer ≡ 0) × IsPassOf (stealer_deque s.stealer) s.pass × All (λ p. IsPassOf (stealer_deque s.stealer) p × ((seen p).taken ≡ [])) s.rest.items × (port_paths (s.pass ∷ s.rest.items) ≡ singles (extensions s.levels (path_before s.levels (seen s.pass).paths))) };
 }
@@ -118,10 +118,11 @@ impl Owner {
 }
 
 impl Thief {
-    // One try to take a task. It may meet a step of another thread, of which the contract says nothing.
+    // One try to take a task. It is to be made again only where a task has left the lane since this thief last looked, or a lane was
+    // empty.
     fn attempt(&mut self) -> Steal<Task>
         ensures lane { self.new.lane ≡ self.old.lane }
-        ensures rule { MatchSteal result ((self.new ≡ self.old) × Finds self.old.taken) (self.new ≡ self.old) (λ t. (self.new ≡ record self.old { taken = self.old.taken ++ t ∷ [] }) × Takes self.old.taken t) }
+        ensures rule { MatchSteal result ((self.new ≡ record self.old { gone = self.new.gone }) × Finds self.old.taken) ((self.new ≡ record self.old { gone = self.new.gone }) × ((self.old.gone < self.new.gone) ⊎ Finds self.old.taken)) (λ t. (self.new ≡ record self.old { taken = self.old.taken ++ t ∷ []; gone = self.new.gone }) × Takes self.old.taken t) }
     {
         self.stealer.steal_as::<Take>(&mut self.pass)
     }
@@ -132,7 +133,7 @@ impl Thief {
     /// It takes no memory. Where it meets a step of another thread it tries again, so it may wait for that thread.
     pub fn steal<R: Wait>(&mut self, rt: &R) -> Option<Task>
         ensures lane { self.new.lane ≡ self.old.lane }
-        ensures rule { MatchOption result ((self.new ≡ self.old) × Finds self.old.taken) (λ t. (self.new ≡ record self.old { taken = self.old.taken ++ t ∷ [] }) × Takes self.old.taken t) }
+        ensures rule { MatchOption result ((self.new ≡ record self.old { gone = self.new.gone }) × Finds self.old.taken) (λ t. (self.new ≡ record self.old { taken = self.old.taken ++ t ∷ []; gone = self.new.gone }) × Takes self.old.taken t) }
     {
         for _ in rt.forever() {
             match self.attempt() {
@@ -218,7 +219,7 @@ impl Thief {
     /// At `NoMemory` the thief is as before. It comes for want of memory, and where the path has six digits.
     pub fn split(&mut self) -> Result<Thief, NoMemory>
         ensures lane { self.new.lane ≡ self.old.lane }
-        ensures extended { IfOk result (λ t. (self.new ≡ record self.old { path = self.old.path ++ false ∷ [] }) × (t ≡ record { lane = self.old.lane; taken = []; path = self.old.path ++ true ∷ [] })) }
+        ensures extended { IfOk result (λ t. (self.new ≡ record self.old { path = self.old.path ++ false ∷ [] }) × (t ≡ record { lane = self.old.lane; taken = []; path = self.old.path ++ true ∷ []; gone = t.gone })) }
         ensures failed { OnErr result (self.new ≡ self.old) }
     {
         if self.levels == 0 {

@@ -21,7 +21,7 @@ mod workers;
 
 pub use ends::{Owner, Thief, lane};
 pub use gate::{Gate, OpenGate};
-pub use roots::roots_of;
+pub use roots::{roots_of, whole_slots};
 pub use rule::Task;
 pub use splitter::{Splitter, Worked, halves};
 pub use workers::{Workers, run};

@@ -2,7 +2,7 @@
 ghost use Rattle.std.specs.Prelude.{◌≡◌, ◌+◌, ◌≤◌, [], ◌∷◌, IfOk, length, map};
 ghost use Rattle.cube_alg.specs.declared.Region.{Region as Area};
 ghost use Rattle.task_board.specs.Stands.{IsWorked, part_of};
-ghost use Rattle.steal_pool.specs.Pieces.{AddsWork};
+ghost use Rattle.steal_pool.specs.Pieces.{AreFiner, AddsWork};
 
 use crate::plan::{Call, Plan};
 use crate::splitter::{Splitter, Worked};
@@ -32,35 +32,40 @@ pub struct Pieces<V> {
     pub ghost room: { 256 ≤ length finished.items + finished.spare },
 }
 
-/// Works a region down to at most 256 leaves and open parts. The part that was divided last is worked on first, so that
-/// the greatest parts stay open.
+/// Works a region down to at most 256 leaves and open parts, each part with more fixed bits than the region. The part that was
+/// divided last is worked on first, so that the greatest parts stay open.
 pub fn work_down<S: Splitter, K: Call<S::Value>>(
     alloc: Global,
     plan: &Plan<S, K>,
     region: Region,
 ) -> Result<Pieces<S::Value>, NoMemory>
-    ensures { IfOk result (λ p. IsWorked K.gives region p.finished.items p.rest.items) }
+    ensures worked { IfOk result (λ p. IsWorked K.gives region p.finished.items p.rest.items) }
+    ensures finer { IfOk result (λ p. AreFiner region p.rest.items) }
 {
-    let mut pieces = untouched(alloc, region)?;
-    for _ in 0..STEPS {
+    let mut pieces = begin(alloc, plan, region)?;
+    for _ in 1..STEPS {
         pieces = step(alloc, plan, pieces)?;
     }
     Ok(pieces)
 }
 
-// The region as one open part.
-fn untouched<V: Drop>(alloc: Global, region: Region) -> Result<Pieces<V>, NoMemory>
-    ensures finished { IfOk result (λ p. p.finished.items ≡ []) }
-    ensures rest { IfOk result (λ p. p.rest.items ≡ part_of region 0 ∷ []) }
+// Works on the region itself.
+fn begin<S: Splitter, K: Call<S::Value>>(
+    alloc: Global,
+    plan: &Plan<S, K>,
+    region: Region,
+) -> Result<Pieces<S::Value>, NoMemory>
+    ensures worked { IfOk result (λ p. IsWorked K.gives region p.finished.items p.rest.items) }
+    ensures finer { IfOk result (λ p. AreFiner region p.rest.items) }
 {
     let mut finished = Rope::new(alloc);
     finished.reserve(MOST_PIECES)?;
     let mut rest = Vec::new(alloc);
-    rest.push(Part { region, ticket: 0 })?;
+    let count = work_part(alloc, plan, region, &mut finished, &mut rest)?;
     Ok(Pieces {
         finished,
         rest,
-        count: 1,
+        count,
     })
 }
 
@@ -70,7 +75,8 @@ fn step<S: Splitter, K: Call<S::Value>>(
     plan: &Plan<S, K>,
     pieces: Pieces<S::Value>,
 ) -> Result<Pieces<S::Value>, NoMemory>
-    ensures { IfOk result (λ p. (r : Area) → IsWorked K.gives r pieces.finished.items pieces.rest.items → IsWorked K.gives r p.finished.items p.rest.items) }
+    ensures worked { IfOk result (λ p. (r : Area) → IsWorked K.gives r pieces.finished.items pieces.rest.items → IsWorked K.gives r p.finished.items p.rest.items) }
+    ensures finer { IfOk result (λ p. (r : Area) → AreFiner r pieces.rest.items → AreFiner r p.rest.items) }
 {
     if pieces.count + MOST_PARTS > MOST_PIECES + 1 {
         return Ok(pieces);

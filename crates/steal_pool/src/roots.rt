@@ -1,6 +1,6 @@
 //! The roots of a call.
-ghost use Rattle.std.specs.Prelude.{◌≡◌, ◌<◌, ◌^◌, AllPairs, IfOk, length};
-ghost use Rattle.task_board.specs.Regions.{LieApart};
+ghost use Rattle.std.specs.Prelude.{◌≡◌, ◌<◌, ◌^◌, ℕ, AllPairs, Any, IfOk, length};
+ghost use Rattle.task_board.specs.Regions.{Holds, LieApart};
 ghost use Rattle.steal_pool.specs.Roots.{in_slots};
 
 use cube_alg::Region;
@@ -23,5 +23,17 @@ pub fn roots_of(alloc: Global, cubes: &[Cube]) -> Result<Vec<Region>, NoMemory>
             cube,
         })?;
     }
+    Ok(roots)
+}
+
+/// All headers in each of so many slots, as roots.
+pub fn whole_slots(alloc: Global, slots: usize) -> Result<Vec<Region>, NoMemory>
+    requires { slots < 2 ^ 32 }
+    ensures few { IfOk result (λ roots. length roots.items ≡ slots) }
+    ensures apart { IfOk result (λ roots. AllPairs LieApart roots.items) }
+    ensures whole { IfOk result (λ roots. (k h : ℕ) → k < slots → Any (Holds k h) roots.items) }
+{
+    let cubes = vec![in alloc; Cube::all(); slots]?;
+    let roots = roots_of(alloc, cubes.as_slice())?;
     Ok(roots)
 }

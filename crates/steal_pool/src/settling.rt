@@ -1,5 +1,5 @@
 //! Regions of a call's board that are settled, by a worker or by the calling thread.
-ghost use Rattle.std.specs.Prelude.{◌≡◌, IfOk, OnErr, map, [], Some};
+ghost use Rattle.std.specs.Prelude.{◌≡◌, ℕ, IfOk, OnErr, IsNone, IfSome, map, [], None, Some};
 ghost use Rattle.task_board.specs.Stands.{IsWorked, Settles, Answers, region_at};
 
 use crate::pieces::{Pieces, work_down};
@@ -9,7 +9,6 @@ use chunk_rope::Rope;
 use cube_alg::Region;
 use no_memory::NoMemory;
 use std::alloc::Global;
-use std::sync::Wait;
 use task_board::{Board, Leaf, Part};
 
 /// Settles what came of a region. It answers the parts that are open then: none where the region isn't open any more.
@@ -46,9 +45,9 @@ pub fn settle<V: Send + Drop, K: Call<V>>(
     Ok(rest)
 }
 
-/// Works down and settles whatever is open, and answers all leaves.
-pub fn finish<S: Splitter, K: Call<S::Value>, R: Wait>(
-    rt: &R,
+/// Works down and settles whatever is open, and answers all leaves. It ends, since each part that is opened has more fixed bits
+/// than the region in whose place it comes.
+pub fn finish<S: Splitter, K: Call<S::Value>>(
     alloc: Global,
     plan: &Plan<S, K>,
     mut board: Board<CallMeaning<S::Value, K>>,
@@ -56,20 +55,24 @@ pub fn finish<S: Splitter, K: Call<S::Value>, R: Wait>(
     ensures { IfOk result (λ r. Answers K.gives board.roots r.items) }
 {
     let mut from = 0;
-    for _ in rt.forever() {
-        match board.next_open(from) {
-            Some(part) => {
-                let pieces = work_down(alloc, plan, part.region)?;
-                settle(&mut board, part.ticket, &part.region, pieces)?;
-                from = part.ticket;
-            }
-            None => {
-                if from == 0 {
-                    return Ok(board.take_done());
-                }
-                from = 0;
-            }
-        }
+    while let Some(part) = open_from(&board, from) {
+        let pieces = work_down(alloc, plan, part.region)?;
+        settle(&mut board, part.ticket, &part.region, pieces)?;
+        from = part.ticket;
     }
-    unreachable!()
+    Ok(board.take_done())
+}
+
+// The open region of the least ticket that isn't below this one, or else of the least ticket.
+fn open_from<V: Send + Drop, K: Call<V>>(
+    board: &Board<CallMeaning<V, K>>,
+    from: u64,
+) -> Option<Part>
+    ensures none { IsNone result → (k : ℕ) → region_at board.now.tickets k ≡ None }
+    ensures found { IfSome result (λ p. region_at board.now.tickets p.ticket ≡ Some p.region) }
+{
+    match board.next_open(from) {
+        Some(part) => Some(part),
+        None => board.next_open(0),
+    }
 }

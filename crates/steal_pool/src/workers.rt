@@ -1,13 +1,13 @@
 //! Workers, each with a lane of its own and a thief of every other, and the call that starts and joins them.
 
-ghost use Rattle.std.specs.Prelude.{◌≡◌, ◌<◌, ◌≤◌, ◌^◌, IfOk, AllPairs, length, vec_len};
+ghost use Rattle.std.specs.Prelude.{◌≡◌, ◌+◌, ◌<◌, ◌≤◌, ◌^◌, IfOk, AllPairs, length, vec_len};
 ghost use Rattle.task_board.specs.Regions.{LieApart};
 ghost use Rattle.task_board.specs.Stands.{Answers};
 
-use crate::ends::{Owner, Thief, lane};
+use crate::ends::{Thief, lane};
 use crate::gate::Gate;
 use crate::plan::{Call, CallMeaning, Plan};
-use crate::pool::{Pool, take_turn};
+use crate::pool::{Hand, Pool, take_turn};
 use crate::rule::Task;
 use crate::settling::finish;
 use crate::splitter::Splitter;
@@ -17,6 +17,7 @@ use no_memory::NoMemory;
 use std::alloc::Global;
 use std::marker::Brand;
 use std::sync::Wait;
+use std::sync::ledger::{Blank, Book, Ledger, Share};
 use std::thread;
 use std::thread::Threads;
 use task_board::{Board, Leaf};
@@ -61,18 +62,18 @@ impl<'a, R, G> Workers<'a, R, G> {
     }
 }
 
-// What a worker holds: the owner of its lane, and a thief of each lane.
+// What a worker holds: its lane, and a thief of each lane.
 #[derive(Drop)]
-struct Seat {
-    owner: Owner,
+struct Seat<P: Ledger, T: Ledger> {
+    hand: Hand<P, T>,
     thieves: Vec<Thief>,
     number: usize,
 }
 
-impl Seat {
+impl<P: Ledger, T: Ledger> Seat<P, T> {
     // The first task of its own lane, or of the next lane in turn that has one.
     fn try_next<R: Wait>(&mut self, rt: &R) -> Option<Task> {
-        if let Some(task) = self.owner.take() {
+        if let Some(task) = self.hand.take() {
             return Some(task);
         }
         let lanes = self.thieves.len();
@@ -89,18 +90,18 @@ impl Seat {
     fn next<V: Send + Drop, K: Call<V>, R: Wait>(
         &mut self,
         rt: &R,
-        pool: &Pool<V, K>,
+        pool: &Pool<V, K, P, T>,
     ) -> Option<Task> {
         for _ in rt.forever() {
             if let Some(task) = self.try_next(rt) {
                 return Some(task);
             }
-            // A task that is pushed from here on counts as a move, so the wait doesn't miss it.
-            let moves = pool.moves(rt);
+            // A task that is pushed from here on is pushed by a turn that ends later, so the wait doesn't miss it.
+            let ended = pool.ended(rt);
             if let Some(task) = self.try_next(rt) {
                 return Some(task);
             }
-            if pool.is_done_after(rt, moves) {
+            if pool.is_done_after(rt, ended) {
                 return None;
             }
         }
@@ -134,8 +135,16 @@ fn capacity_of(lanes: usize, roots: usize) -> usize
     (all / lanes.max(4)).max(1).min(MOST_IN_LANE)
 }
 
-// A seat for each worker, with room for so many roots in their lanes.
-fn seats(alloc: Global, count: usize, roots: usize) -> Result<Vec<Seat>, NoMemory>
+// A seat for each worker, with room for so many roots in their lanes. Each has a part of both ledgers.
+fn seats<P: Ledger, T: Ledger>(
+    alloc: Global,
+    count: usize,
+    roots: usize,
+    mut puts: Share<P>,
+    mut turns: Share<T>,
+) -> Result<Vec<Seat<P, T>>, NoMemory>
+    requires puts { (puts.parts ≡ count) × (puts.amount ≡ 0) }
+    requires turns { (turns.parts ≡ count) × (turns.amount ≡ 0) }
     ensures { IfOk result (λ v. vec_len v ≡ count) }
 {
     let mut seats = Vec::new(alloc);
@@ -143,7 +152,7 @@ fn seats(alloc: Global, count: usize, roots: usize) -> Result<Vec<Seat>, NoMemor
     for number in 0..count {
         let (owner, first) = lane(alloc, capacity_of(count, roots))?;
         seats.push(Seat {
-            owner,
+            hand: Hand::of(owner, puts.split_off(1, 0), turns.split_off(1, 0)),
             thieves: Vec::new(alloc),
             number,
         })?;
@@ -161,8 +170,13 @@ fn seats(alloc: Global, count: usize, roots: usize) -> Result<Vec<Seat>, NoMemor
 
 // Pushes the open regions in the order of their tickets, the k-th to lane k modulo the number of lanes, and answers how
 // many the lanes took.
-fn hand_out<V: Send + Drop, K: Call<V>>(board: &Board<CallMeaning<V, K>>, seats: &mut [Seat]) -> u64
+fn hand_out<V: Send + Drop, K: Call<V>, P: Ledger, T: Ledger>(
+    board: &Board<CallMeaning<V, K>>,
+    seats: &mut [Seat<P, T>],
+    puts: &mut Book<P>,
+) -> u64
     requires { 0 < length seats.old }
+    ensures { puts.new.total ≡ puts.old.total + result }
 {
     let mut pushed: u64 = 0;
     let mut from = 0;
@@ -171,8 +185,8 @@ fn hand_out<V: Send + Drop, K: Call<V>>(board: &Board<CallMeaning<V, K>>, seats:
             break;
         };
         let at = k % seats.len();
-        if seats[at].owner.push(part.ticket, part.region).is_ok() {
-            pushed = pushed.saturating_add(1);
+        if seats[at].hand.put(puts, part) {
+            pushed += 1;
         }
         from = part.ticket.saturating_add(1);
     }
@@ -180,30 +194,32 @@ fn hand_out<V: Send + Drop, K: Call<V>>(board: &Board<CallMeaning<V, K>>, seats:
 }
 
 // Takes tasks, and works on each behind the gate, until none is left or there is no memory.
-fn work<S: Splitter, K: Call<S::Value>, G: Gate, R: Wait>(
+fn work<S: Splitter, K: Call<S::Value>, P: Ledger, T: Ledger, G: Gate, R: Wait>(
     rt: &R,
     alloc: Global,
-    pool: &Pool<S::Value, K>,
+    pool: &Pool<S::Value, K, P, T>,
     plan: &Plan<S, K>,
     gate: &G,
-    mut seat: Seat,
-) -> Seat {
+    mut seat: Seat<P, T>,
+) -> Seat<P, T> {
     for _ in rt.forever() {
         let Some(task) = seat.next(rt, pool) else {
             return seat;
         };
         gate.pass(task.ticket);
-        if take_turn(rt, alloc, pool, plan, &mut seat.owner, task).is_err() {
+        if take_turn(rt, alloc, pool, plan, &mut seat.hand, task).is_err() {
             return seat;
         }
     }
     unreachable!()
 }
 
-// The call, whose splitter and roots its types name.
+// The call, whose splitter, roots and ledgers its types name.
 fn run_as<
     S: Splitter + Send + Sync,
     K: Call<S::Value> + Send + Sync,
+    P: Ledger + Send + Sync,
+    T: Ledger + Send + Sync,
     G: Gate + Sync,
     R: Threads + Wait + Sync,
 >(
@@ -211,22 +227,28 @@ fn run_as<
     alloc: Global,
     roots: &[Region],
     splitter: S,
+    puts: Blank,
+    turns: Blank,
 ) -> Result<Rope<Leaf<S::Value>>, NoMemory>
     requires apart { AllPairs LieApart roots.now }
     requires few { length roots.now < 2 ^ 32 }
     requires gives { K.gives ≡ S.gives splitter }
     requires roots { K.roots ≡ roots.now }
+    requires puts { (puts.name ≡ P.name) × (puts.parts ≡ P.parts) × (puts.parts ≡ by.now.count) }
+    requires turns { (turns.name ≡ T.name) × (turns.parts ≡ T.parts) × (turns.parts ≡ by.now.count) }
     ensures { IfOk result (λ r. Answers K.gives roots.now r.items) }
 {
     let plan: Plan<S, K> = Plan::of(splitter);
     let board = Board::open_all(alloc, CallMeaning::new(), roots)?;
-    let mut seats = seats(alloc, by.count as usize, roots.len())?;
-    let tasks = hand_out(&board, seats.as_mut_slice());
-    let pool = Pool::of(board, tasks);
+    let (mut puts, my_puts) = puts.open::<P>();
+    let (turns, my_turns) = turns.open::<T>();
+    let mut seats = seats(alloc, by.count as usize, roots.len(), my_puts, my_turns)?;
+    let put = hand_out(&board, seats.as_mut_slice(), &mut puts);
+    let pool = Pool::of(board, put, puts, turns);
     let (rt, gate) = (by.rt, by.gate);
     let (shared, rule) = (&pool, &plan);
     let _ = thread::map_vec(rt, seats, &|seat| work(rt, alloc, shared, rule, gate, seat));
-    finish(rt, alloc, &plan, pool.into_board())
+    finish(alloc, &plan, pool.into_board())
 }
 
 /// Works all roots down to leaves.
@@ -244,5 +266,13 @@ pub fn run<S: Splitter + Send + Sync, G: Gate + Sync, R: Threads + Wait + Sync>(
     requires few { length roots.now < 2 ^ 32 }
     ensures { IfOk result (λ r. Answers (S.gives splitter) roots.now r.items) }
 {
-    run_as::<S, Brand, G, R>(by, alloc, roots, splitter)
+    let parts = u64::from(by.count);
+    run_as::<S, Brand, Brand, Brand, G, R>(
+        by,
+        alloc,
+        roots,
+        splitter,
+        Blank::new(parts),
+        Blank::new(parts),
+    )
 }

@@ -93,3 +93,34 @@ impl Gate for Relay {
         self.gave_up.fetch_add(1, Ordering::SeqCst);
     }
 }
+
+/// The task of one ticket is kept back while the others work, find no more tasks, and wait for it.
+#[derive(Drop)]
+pub struct Late {
+    pub ticket: u64,
+    opened: AtomicU64,
+}
+
+impl Late {
+    pub fn new(ticket: u64) -> Late {
+        Late {
+            ticket,
+            opened: AtomicU64::new(0),
+        }
+    }
+}
+
+impl Gate for Late {
+    fn pass(&self, ticket: u64) {
+        if ticket != self.ticket {
+            return;
+        }
+        for _ in 0..20_000_000u64 {
+            if self.opened.load(Ordering::SeqCst) > 0 {
+                return;
+            }
+        }
+        // A part that gets the same ticket later isn't kept back.
+        self.opened.store(1, Ordering::SeqCst);
+    }
+}

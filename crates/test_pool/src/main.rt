@@ -46,6 +46,19 @@ fn main(rt: HostRuntime) -> io::Result<()> {
         let case = "one root in 4096 parts";
         show(&rt, case, pools::divided(&rt, rt.alloc(), workers, 1, 12))?;
     }
+    for workers in [2, 64] {
+        for (roots, depth, ticket) in [(1, 0, 0), (1, 9, 0), (3, 0, 2), (3, 8, 0)] {
+            let kept = pools::Kept {
+                roots,
+                depth,
+                ticket,
+            };
+            let case = "a task that the others wait for";
+            show(&rt, case, pools::kept_back(&rt, rt.alloc(), workers, kept))?;
+        }
+        let case = "a task that the others wait for, and that is refused";
+        show(&rt, case, pools::kept_and_refused(&rt, rt.alloc(), workers))?;
+    }
     for refused in [0, 2, 3] {
         show(
             &rt,

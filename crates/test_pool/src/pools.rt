@@ -1,6 +1,6 @@
 //! Pools of workers, by the leaves that they find.
 
-use crate::gates::{Meeting, Relay};
+use crate::gates::{Late, Meeting, Relay};
 use crate::splitters::{Nothing, Slots, Stingy};
 use chunk_rope::Rope;
 use hdr_bits::Cube;
@@ -94,6 +94,65 @@ pub fn refused<R: Threads + Wait + Sync>(
     let roots = roots_of(alloc, &[Cube::all(), Cube::all()])?;
     let leaves = run(&free(rt, 2), alloc, roots.as_slice(), splitter)?;
     let text = format!(in alloc; "{refused} times {}", counted(alloc, leaves)?)?;
+    Ok(text)
+}
+
+/// What is kept back until all other workers wait for it.
+#[derive(Clone, Copy)]
+pub struct Kept {
+    pub roots: u16,
+    /// Each root comes in 2 to the `depth` parts.
+    pub depth: u32,
+    pub ticket: u64,
+}
+
+/// A task that is kept back while the others wait: they are woken when its turn ends, to take its parts or to end.
+pub fn kept_back<R: Threads + Wait + Sync>(
+    rt: &R,
+    alloc: Global,
+    workers: u32,
+    kept: Kept,
+) -> Result<String, NoMemory> {
+    let gate = Late::new(kept.ticket);
+    let by = Workers {
+        rt,
+        gate: &gate,
+        count: workers.clamp(1, 64),
+    };
+    let cubes = vec![in alloc; Cube::all(); usize::from(kept.roots)]?;
+    let roots = roots_of(alloc, cubes.as_slice())?;
+    let leaves = run(&by, alloc, roots.as_slice(), Slots { depth: kept.depth })?;
+    let text = format!(in alloc;
+        "ticket {} of {} by {} workers {}",
+        kept.ticket,
+        kept.roots,
+        by.count,
+        counted(alloc, leaves)?
+    )?;
+    Ok(text)
+}
+
+/// The one root is kept back while the other workers wait, and then the first call of work is refused: all workers end, and the
+/// calling thread works on it.
+pub fn kept_and_refused<R: Threads + Wait + Sync>(
+    rt: &R,
+    alloc: Global,
+    workers: u32,
+) -> Result<String, NoMemory> {
+    let calls = AtomicU64::new(0);
+    let splitter = Stingy {
+        calls: &calls,
+        refused: 1,
+    };
+    let gate = Late::new(0);
+    let by = Workers {
+        rt,
+        gate: &gate,
+        count: workers.clamp(1, 64),
+    };
+    let roots = roots_of(alloc, &[Cube::all()])?;
+    let leaves = run(&by, alloc, roots.as_slice(), splitter)?;
+    let text = format!(in alloc; "by {} workers {}", by.count, counted(alloc, leaves)?)?;
     Ok(text)
 }
 

@@ -1,5 +1,4 @@
-use Rattle.steal_pool.proofs.PieceLemmas.{worked_first}
 use Rattle.steal_pool.proofs.pieces.work_down.Goals as goal
 
-pub loop-init : goal.loop-init
-loop-init g c = worked_first g.K.Call.gives c.args.region _ _ c.in_ok-pieces.ensures.finished c.in_ok-pieces.ensures.rest
+pub loop-preserved : goal.loop-preserved
+loop-preserved g c = let e = c.in_ok-pieces-2.ensures in (e.worked c.args.region c.loop.invariant.0, e.finer c.args.region c.loop.invariant.1)

@@ -1,5 +1,5 @@
 use Rattle.std.proofs.Common.{◌≡◌, List, ◌∷◌, ◌∙◌, sym, subst, refl}
-use Rattle.crossbeam_deque.specs.Handles.{stealer_deque, view}
+use Rattle.crossbeam_deque.specs.Handles.{stealer_deque, view, taken}
 use Rattle.steal_pool.specs.Seats.{port_paths, singles, path_before}
 use Rattle.steal_pool.specs.Paths.{Path, extensions}
 use Rattle.steal_pool.proofs.Steps.{takes}
@@ -16,4 +16,4 @@ invariant_of-self c = let s = c.self.inside in let i = c.self.invariant in let e
     (i.0, (e.0 ∙ i.1.0, e.1 ∙ i.1.1, e.3, e.4), i.2, subst (λ (q : List Path). q ∷ port_paths s.rest.items ≡ singles (extensions s.levels (path_before s.levels q))) (sym paths) i.3)
 
 pub returns : goal.returns
-returns c = let e = c.self.view_is in let s = c.self.inside in rw (← e) (record { lane = refl; rule = stole (stealer_deque s.stealer) s.levels (view s.pass) (view c.steal_as.new.pass) _ c.steal_as.result c.steal_as.ensures.rule })
+returns c = let e = c.self.view_is in let s = c.self.inside in rw (← e) (record { lane = refl; rule = stole (stealer_deque s.stealer) s.levels (taken s.pass) (taken c.steal_as.new.pass) (view s.pass) (view c.steal_as.new.pass) c.steal_as.result c.steal_as.ensures.rule })

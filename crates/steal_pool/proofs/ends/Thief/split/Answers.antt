@@ -1,5 +1,5 @@
 use Rattle.std.proofs.Common.{◌<◌, ◌/◌, ◌∷◌, ◌∙◌, length, arith}
-use Rattle.crossbeam_deque.specs.Handles.{stealer_deque, view}
+use Rattle.crossbeam_deque.specs.Handles.{stealer_deque, view, taken}
 use Rattle.steal_pool.proofs.Bundles.{some_ports, ports_front, ports_back, own_ends, path_before_end, spares_front, spares_back, first_spare, other_spares}
 use Rattle.steal_pool.proofs.ends.Thief.split.Goals as goal
 
@@ -26,4 +26,4 @@ returns-clause-extended c = let s = c.self.inside in let i = c.self.invariant in
     let zero_end = path_before_end _ _ _ _ (ports_front s.levels _ s.pass s.rest.items c.cut_off.new.ports.items some i.3 cut.0) in
     let one_end = path_before_end _ _ _ _ (ports_back s.levels _ s.pass s.rest.items (c.in_ok-pass.pass ∷ c.in_ok-pass.rest.items) some i.3 cut.1) in
     let deque = c.in_ok-stealer.ensures.cases.0 in
-    rw (← e) (λ j. record { lane = stealer_deque s.stealer; taken = (view s.pass).taken; path = zero_end j }, λ j. record { lane = deque j; taken = none.1 j; path = one_end j })
+    rw (← e) (λ j. record { lane = stealer_deque s.stealer; taken = (view s.pass).taken; path = zero_end j; gone = taken s.pass }, λ j. record { lane = deque j; taken = none.1 j; path = one_end j; gone = taken c.in_ok-pass.pass })

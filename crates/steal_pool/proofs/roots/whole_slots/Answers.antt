@@ -6,8 +6,8 @@ use Rattle.hdr_bits.specs.CubeBits.{IsIn}
 use Rattle.cube_alg.specs.declared.Region.{Region}
 use Rattle.task_board.specs.Regions.{Holds}
 use Rattle.steal_pool.specs.Roots.{in_slots}
-use Rattle.pair_rows.proofs.RootLemmas.{slot_holds, star_holds}
-use Rattle.pair_rows.proofs.workers.whole_slots.Goals as goal
+use Rattle.steal_pool.proofs.WholeLemmas.{slot_holds, star_holds}
+use Rattle.steal_pool.proofs.roots.whole_slots.Goals as goal
 
 pub returns-clause-whole : goal.returns-clause-whole
 returns-clause-whole c k h l =
