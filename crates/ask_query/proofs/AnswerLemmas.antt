@@ -111,15 +111,15 @@ filters_more f g old new qs i q l e all mine more x c =
 
 -- ---- the answer
 pub holds : (w : World) (t : ℕ) (q : Question) (f : Functions) (set : ℕ) → GivesNothing (value_at f set) → AreBreaking w t q f set → IsAnswer w t q answer.Holds
-holds w t q f set none s h b = no_header f set h none (number-below h b.fits) ((s h b.fits).1 (b.filtered, b.breaks))
+holds w t q f set none s h b = no_header f set h none (number-below h b.fits) ((s.exact h b.fits).1 (b.filtered, b.breaks))
 
 pub fails : (w : World) (t : ℕ) (q : Question) (f : Functions) (set : ℕ) (h : Header) → IsHeader h → IsFirst (value_at f set) h → AreBreaking w t q f set → IsAnswer w t q (answer.Fails h)
 fails w t q f set h v first s =
-    let x = (s h v).0 first.some in
+    let x = (s.exact h v).0 first.some in
     record {
       is = record { fits = v; filtered = x.0; breaks = x.1 };
       least = λ g b. elim (cases_lt (number g) (number h)) [
-        | inl l ↦ absurd (no_value (subst (λ y. IsSome y) (first.least (number g) l) ((s g b.fits).1 (b.filtered, b.breaks))))
+        | inl l ↦ absurd (no_value (subst (λ y. IsSome y) (first.least (number g) l) ((s.exact g b.fits).1 (b.filtered, b.breaks))))
         | inr l ↦ l
       ];
     }

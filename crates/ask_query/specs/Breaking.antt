@@ -6,7 +6,7 @@ use Rattle.hdr_bits.specs.CubeBits.{IsIn}
 use Rattle.cube_diagram.specs.Functions.{Functions}
 use Rattle.net_types.specs.declared.network.Place.{Place}
 use Rattle.net_types.specs.World.{World}
-use Rattle.set_walk.specs.Sets.{InSet, IsSetOf}
+use Rattle.set_walk.specs.Sets.{InSet, IsSet}
 use Rattle.ask_query.specs.declared.answers.WalkEnds.{WalkEnds}
 use Rattle.net_types.specs.declared.question.Question.{Question}
 use Rattle.net_types.specs.Questions.{BreaksKind}
@@ -14,7 +14,7 @@ use Rattle.ask_query.specs.Reaching.{AreEndsFor}
 
 -- the set has the headers of the question's filter that break it
 abbrev pub AreBreaking : World → ℕ → Question → Functions → ℕ → Type 0
-AreBreaking w t q fs set = IsSetOf fs set (λ h. IsIn q.filter (number h) × BreaksKind w t q.kind q.from q.to h)
+AreBreaking w t q fs set = IsSet fs set (λ h. IsIn q.filter (number h) × BreaksKind w t q.kind q.from q.to h)
 
 -- all headers of the question's filter are in the set
 abbrev pub HasFilter : Functions → ℕ → Question → Type 0

@@ -8,7 +8,7 @@ ghost use Rattle.cube_diagram.specs.Functions.{Keeps, count_of};
 ghost use Rattle.indexmap.specs.IndexMap.{get};
 ghost use Rattle.net_types.specs.World.{World, same_place};
 ghost use Rattle.net_view.specs.Borrowed.{world_of};
-ghost use Rattle.set_walk.specs.Sets.{InSet, IsSetOf};
+ghost use Rattle.set_walk.specs.Sets.{InSet, IsSet};
 ghost use Rattle.set_walk.specs.Outcomes.{AreEndsBelow};
 ghost use Rattle.net_types.specs.declared.question.Question.{Question};
 ghost use Rattle.net_types.specs.Questions.{IsAnswer, ReachesNamed, Loops};
@@ -79,8 +79,7 @@ fn breaking(
     requires asked { IsAsked table.old asked.now }
     requires filter { HasFilter table.old asked.now.domain question.now }
     requires walks { AreWalks (world_of asked.now.net.now.world) asked.now.ttl table.old asked.now.domain (get same_place walks.old) }
-    ensures below { IfOk result (λ r. r < count_of table.new) }
-    ensures exact { IfOk result (AreBreaking (world_of asked.now.net.now.world) asked.now.ttl question.now table.new) }
+    ensures set { IfOk result (AreBreaking (world_of asked.now.net.now.world) asked.now.ttl question.now table.new) }
     ensures walks { OnOk result (AreWalks (world_of asked.now.net.now.world) asked.now.ttl table.new asked.now.domain (get same_place walks.new)) }
     ensures kept { Keeps table.old table.new }
 {
@@ -111,8 +110,7 @@ fn not_reaching(
     requires asked { IsAsked table.old asked.now }
     requires filter { HasFilter table.old asked.now.domain question.now }
     requires walks { AreWalks (world_of asked.now.net.now.world) asked.now.ttl table.old asked.now.domain (get same_place walks.old) }
-    ensures below { IfOk result (λ r. r < count_of table.new) }
-    ensures exact { IfOk result (λ r. IsSetOf table.new r (λ h. IsIn question.now.filter (number h) × (ReachesNamed (world_of asked.now.net.now.world) asked.now.ttl question.now.from question.now.to h → ⊥))) }
+    ensures set { IfOk result (λ r. IsSet table.new r (λ h. IsIn question.now.filter (number h) × (ReachesNamed (world_of asked.now.net.now.world) asked.now.ttl question.now.from question.now.to h → ⊥))) }
     ensures walks { OnOk result (AreWalks (world_of asked.now.net.now.world) asked.now.ttl table.new asked.now.domain (get same_place walks.new)) }
     ensures kept { Keeps table.old table.new }
 {
@@ -133,8 +131,7 @@ fn reaching(
     requires asked { IsAsked table.old asked.now }
     requires filter { HasFilter table.old asked.now.domain question.now }
     requires walks { AreWalks (world_of asked.now.net.now.world) asked.now.ttl table.old asked.now.domain (get same_place walks.old) }
-    ensures below { IfOk result (λ r. r < count_of table.new) }
-    ensures exact { IfOk result (λ r. IsSetOf table.new r (λ h. IsIn question.now.filter (number h) × ReachesNamed (world_of asked.now.net.now.world) asked.now.ttl question.now.from question.now.to h)) }
+    ensures set { IfOk result (λ r. IsSet table.new r (λ h. IsIn question.now.filter (number h) × ReachesNamed (world_of asked.now.net.now.world) asked.now.ttl question.now.from question.now.to h)) }
     ensures walks { OnOk result (AreWalks (world_of asked.now.net.now.world) asked.now.ttl table.new asked.now.domain (get same_place walks.new)) }
     ensures kept { Keeps table.old table.new }
 {
@@ -158,8 +155,7 @@ fn reaching(
 // The headers of the filter that have one of these ends at the place.
 fn ending(table: &mut Diagrams, ends: &[OutcomeSet], question: &Question) -> Result<u32, NoMemory>
     requires ends { AreEndsBelow table.old ends.now }
-    ensures below { IfOk result (λ r. r < count_of table.new) }
-    ensures exact { IfOk result (λ r. IsSetOf table.new r (λ h. IsIn question.now.filter (number h) × EndsNamed table.old ends.now question.now.to h)) }
+    ensures set { IfOk result (λ r. IsSet table.new r (λ h. IsIn question.now.filter (number h) × EndsNamed table.old ends.now question.now.to h)) }
     ensures kept { Keeps table.old table.new }
 {
     let there = headers_to(table, ends, question.to)?;
@@ -176,8 +172,7 @@ fn filtered_loops(
     question: &Question,
 ) -> Result<u32, NoMemory>
     requires { IsAsked table.old asked.now }
-    ensures below { IfOk result (λ r. r < count_of table.new) }
-    ensures exact { IfOk result (λ r. IsSetOf table.new r (λ h. IsIn question.now.filter (number h) × Loops (world_of asked.now.net.now.world) asked.now.ttl question.now.from h)) }
+    ensures set { IfOk result (λ r. IsSet table.new r (λ h. IsIn question.now.filter (number h) × Loops (world_of asked.now.net.now.world) asked.now.ttl question.now.from h)) }
     ensures kept { Keeps table.old table.new }
 {
     let Some(bound) = bound_at(asked.net.places, asked.bounds, question.from) else {
@@ -217,8 +212,7 @@ fn with_filter(table: &mut Diagrams, question: &Question, set: u32) -> Result<u3
 
 // The headers of a filter.
 fn filter_set(table: &mut Diagrams, filter: &Cube) -> Result<u32, NoMemory>
-    ensures below { IfOk result (λ r. r < count_of table.new) }
-    ensures exact { IfOk result (λ r. IsSetOf table.new r (λ h. IsIn filter.now (number h))) }
+    ensures set { IfOk result (λ r. IsSet table.new r (λ h. IsIn filter.now (number h))) }
     ensures kept { Keeps table.old table.new }
 {
     let set = table.add_entry(&[*filter], 1)?;

@@ -16,7 +16,7 @@ ghost use Rattle.net_types.specs.Walks.{state_at};
 ghost use Rattle.net_view.specs.Borrowed.{world_of};
 ghost use Rattle.set_walk.specs.declared.step.Way.{Way};
 ghost use Rattle.set_walk.specs.Circles.{AllSame};
-ghost use Rattle.set_walk.specs.Sets.{InSet, IsSetOf};
+ghost use Rattle.set_walk.specs.Sets.{InSet, IsSet};
 ghost use Rattle.set_walk.specs.Ways.{IsStamp};
 ghost use Rattle.set_walk.specs.Told.{AreTold, IsTold};
 ghost use Rattle.net_types.specs.Questions.{Loops};
@@ -67,8 +67,7 @@ pub(crate) fn looping(
     requires net { IsWholeNet table.old net.now }
     requires domain { domain < count_of table.old }
     requires ttl { 1 ≤ ttl }
-    ensures below { IfOk result (λ r. r < count_of table.new) }
-    ensures exact { IfOk result (λ r. IsSetOf table.new r (λ h. InSet table.old domain h × Loops (world_of net.now.world) ttl place h)) }
+    ensures set { IfOk result (λ r. IsSet table.new r (λ h. InSet table.old domain h × Loops (world_of net.now.world) ttl place h)) }
     ensures kept { Keeps table.old table.new }
 {
     if table.is_nothing(domain) {
@@ -162,8 +161,7 @@ fn looping_in(
     requires levels { (n : ℕ) (l : Level) → slice_get levels.now n ≡ Some l → AreTold table.old l.groups.items }
     requires count { length levels.now ≡ ttl }
     requires ttl { 1 ≤ ttl }
-    ensures below { IfOk result (λ r. r < count_of table.new) }
-    ensures exact { IfOk result (λ r. (start : Functions) (domain : ℕ) (p : Place) → AreLevels (world_of net.now.world) start domain p table.old levels.now → IsSetOf table.new r (λ h. InSet start domain h × Loops (world_of net.now.world) ttl p h)) }
+    ensures set { IfOk result (λ r. (start : Functions) (domain : ℕ) (p : Place) → AreLevels (world_of net.now.world) start domain p table.old levels.now → IsSet table.new r (λ h. InSet start domain h × Loops (world_of net.now.world) ttl p h)) }
     ensures kept { Keeps table.old table.new }
 {
     let last = &levels[usize::from(ttl - 1)];
@@ -180,8 +178,7 @@ fn looping_in(
 // The headers of the groups.
 fn headers_of(table: &mut Diagrams, groups: &[Way]) -> Result<u32, NoMemory>
     requires groups { AreTold table.old groups.now }
-    ensures below { IfOk result (λ r. r < count_of table.new) }
-    ensures exact { IfOk result (λ r. IsSetOf table.new r (ByWay table.old groups.now (λ m _. GoesOn m))) }
+    ensures set { IfOk result (λ r. IsSet table.new r (ByWay table.old groups.now (λ m _. GoesOn m))) }
     ensures kept { Keeps table.old table.new }
 {
     let mut set = table.nothing();
@@ -195,8 +192,7 @@ fn headers_of(table: &mut Diagrams, groups: &[Way]) -> Result<u32, NoMemory>
 fn with_group(table: &mut Diagrams, group: Way, set: u32) -> Result<u32, NoMemory>
     requires group { group.headers < count_of table.old }
     requires set { set < count_of table.old }
-    ensures below { IfOk result (λ r. r < count_of table.new) }
-    ensures exact { IfOk result (λ r. IsSetOf table.new r (λ h. InSet table.old set h ⊎ (InSet table.old group.headers h × GoesOn group.step))) }
+    ensures set { IfOk result (λ r. IsSet table.new r (λ h. InSet table.old set h ⊎ (InSet table.old group.headers h × GoesOn group.step))) }
     ensures kept { Keeps table.old table.new }
 {
     match group.step {
@@ -224,8 +220,7 @@ fn with_returning_from(
     requires groups { AreTold table.old groups.now }
     requires lasting { search.lasting < count_of table.old }
     requires found { search.found < count_of table.old }
-    ensures below { IfOk result (λ r. r < count_of table.new) }
-    ensures exact { IfOk result (λ r. IsSetOf table.new r (λ h. InSet table.old search.found h ⊎ ByWay table.old groups.now (λ m g. InSet table.old search.lasting g × IsBack (world_of net.now.world) room m g) h)) }
+    ensures set { IfOk result (λ r. IsSet table.new r (λ h. InSet table.old search.found h ⊎ ByWay table.old groups.now (λ m g. InSet table.old search.lasting g × IsBack (world_of net.now.world) room m g) h)) }
     ensures kept { Keeps table.old table.new }
 {
     let mut found = search.found;
@@ -249,8 +244,7 @@ fn with_returning(
     requires group { IsTold table.old group }
     requires lasting { search.lasting < count_of table.old }
     requires found { search.found < count_of table.old }
-    ensures below { IfOk result (λ r. r < count_of table.new) }
-    ensures exact { IfOk result (λ r. IsSetOf table.new r (λ h. InSet table.old search.found h ⊎ (InSet table.old group.headers h × (InSet table.old search.lasting h × IsBack (world_of net.now.world) room group.step h)))) }
+    ensures set { IfOk result (λ r. IsSet table.new r (λ h. InSet table.old search.found h ⊎ (InSet table.old group.headers h × (InSet table.old search.lasting h × IsBack (world_of net.now.world) room group.step h)))) }
     ensures kept { Keeps table.old table.new }
 {
     match group.step {
@@ -284,8 +278,7 @@ fn returning_by(
     requires net { IsWholeNet table.old net.now }
     requires headers { arrivals.headers < count_of table.old }
     requires stamp { IsStamp arrivals.stamp }
-    ensures below { IfOk result (λ r. r < count_of table.new) }
-    ensures exact { IfOk result (λ r. IsSetOf table.new r (λ h. InSet table.old arrivals.headers h × Returns (world_of net.now.world) room (state_at arrivals.place (applied arrivals.stamp h)))) }
+    ensures set { IfOk result (λ r. IsSet table.new r (λ h. InSet table.old arrivals.headers h × Returns (world_of net.now.world) room (state_at arrivals.place (applied arrivals.stamp h)))) }
     ensures kept { Keeps table.old table.new }
 {
     if table.is_nothing(arrivals.headers) {
@@ -332,8 +325,7 @@ fn returning(
 ) -> Result<u32, NoMemory>
     requires net { IsWholeNet table.old net.now }
     requires domain { domain < count_of table.old }
-    ensures below { IfOk result (λ r. r < count_of table.new) }
-    ensures exact { IfOk result (λ r. IsSetOf table.new r (λ h. InSet table.old domain h × Returns (world_of net.now.world) room (state_at place h))) }
+    ensures set { IfOk result (λ r. IsSet table.new r (λ h. InSet table.old domain h × Returns (world_of net.now.world) room (state_at place h))) }
     ensures kept { Keeps table.old table.new }
 {
     let mut mark = Mark {
@@ -363,8 +355,7 @@ fn with_unchanged(
 ) -> Result<u32, NoMemory>
     requires groups { AreTold table.old groups.now }
     requires set { set < count_of table.old }
-    ensures below { IfOk result (λ r. r < count_of table.new) }
-    ensures exact { IfOk result (λ r. IsSetOf table.new r (λ h. InSet table.old set h ⊎ ByWay table.old groups.now (λ m _. m ≡ unchanged_at place) h)) }
+    ensures set { IfOk result (λ r. IsSet table.new r (λ h. InSet table.old set h ⊎ ByWay table.old groups.now (λ m _. m ≡ unchanged_at place) h)) }
     ensures kept { Keeps table.old table.new }
 {
     let unchanged = Step::Go {
@@ -382,8 +373,7 @@ fn with_unchanged(
 fn with_step(table: &mut Diagrams, way: Way, step: &Step, set: u32) -> Result<u32, NoMemory>
     requires way { way.headers < count_of table.old }
     requires set { set < count_of table.old }
-    ensures below { IfOk result (λ r. r < count_of table.new) }
-    ensures exact { IfOk result (λ r. IsSetOf table.new r (λ h. InSet table.old set h ⊎ (InSet table.old way.headers h × (way.step ≡ step.now)))) }
+    ensures set { IfOk result (λ r. IsSet table.new r (λ h. InSet table.old set h ⊎ (InSet table.old way.headers h × (way.step ≡ step.now)))) }
     ensures kept { Keeps table.old table.new }
 {
     if !same_step(&way.step, step) {

@@ -2,7 +2,7 @@
 
 ghost use Rattle.std.specs.Prelude.{◌≡◌, ◌<◌, ◌⊎◌, ◌↔◌, IfOk, IsTrue};
 ghost use Rattle.cube_diagram.specs.Functions.{Keeps, count_of};
-ghost use Rattle.set_walk.specs.Sets.{InSet, IsSetOf};
+ghost use Rattle.set_walk.specs.Sets.{InSet, IsSet};
 ghost use Rattle.set_walk.specs.Outcomes.{AreEndsBelow};
 ghost use Rattle.net_types.specs.Questions.{IsAt};
 ghost use Rattle.ask_query.specs.Reaching.{EndsAt, EndsNamed};
@@ -19,8 +19,7 @@ pub(crate) fn headers_to(
     to: Option<Place>,
 ) -> Result<u32, NoMemory>
     requires ends { AreEndsBelow table.old ends.now }
-    ensures below { IfOk result (λ r. r < count_of table.new) }
-    ensures exact { IfOk result (λ r. IsSetOf table.new r (EndsNamed table.old ends.now to)) }
+    ensures set { IfOk result (λ r. IsSet table.new r (EndsNamed table.old ends.now to)) }
     ensures kept { Keeps table.old table.new }
 {
     let Some(place) = to else {
@@ -33,8 +32,7 @@ pub(crate) fn headers_to(
 // The headers that have an outcome at the place.
 fn headers_at(table: &mut Diagrams, ends: &[OutcomeSet], place: Place) -> Result<u32, NoMemory>
     requires ends { AreEndsBelow table.old ends.now }
-    ensures below { IfOk result (λ r. r < count_of table.new) }
-    ensures exact { IfOk result (λ r. IsSetOf table.new r (EndsAt table.old ends.now place)) }
+    ensures set { IfOk result (λ r. IsSet table.new r (EndsAt table.old ends.now place)) }
     ensures kept { Keeps table.old table.new }
 {
     let mut set = table.nothing();
@@ -48,8 +46,7 @@ fn headers_at(table: &mut Diagrams, ends: &[OutcomeSet], place: Place) -> Result
 fn with_end(table: &mut Diagrams, end: OutcomeSet, place: Place, set: u32) -> Result<u32, NoMemory>
     requires end { end.headers < count_of table.old }
     requires set { set < count_of table.old }
-    ensures below { IfOk result (λ r. r < count_of table.new) }
-    ensures exact { IfOk result (λ r. IsSetOf table.new r (λ h. InSet table.old set h ⊎ (InSet table.old end.headers h × IsAt place end.outcome))) }
+    ensures set { IfOk result (λ r. IsSet table.new r (λ h. InSet table.old set h ⊎ (InSet table.old end.headers h × IsAt place end.outcome))) }
     ensures kept { Keeps table.old table.new }
 {
     if !is_at(&end.outcome, place) {

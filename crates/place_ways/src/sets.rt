@@ -4,7 +4,7 @@ ghost use Rattle.std.specs.Prelude.{◌≡◌, ◌<◌, Some, IfOk};
 ghost use Rattle.hdr_bits.specs.HeaderBits.{number};
 ghost use Rattle.cube_alg.specs.Stamps.{applied};
 ghost use Rattle.cube_diagram.specs.Functions.{Keeps, count_of, value_at};
-ghost use Rattle.set_walk.specs.Sets.{InSet, IsSetOf};
+ghost use Rattle.set_walk.specs.Sets.{InSet, IsSet};
 
 use cube_alg::Stamp;
 use cube_diagram::Diagrams;
@@ -21,8 +21,7 @@ pub(crate) fn where_value(
 ) -> Result<u32, NoMemory>
     requires function { function < count_of table.old }
     requires given { given < count_of table.old }
-    ensures below { IfOk result (λ r. r < count_of table.new) }
-    ensures exact { IfOk result (λ r. IsSetOf table.new r (λ h. InSet table.old given h × (value_at table.old function (number h) ≡ Some value))) }
+    ensures set { IfOk result (λ r. IsSet table.new r (λ h. InSet table.old given h × (value_at table.old function (number h) ≡ Some value))) }
     ensures kept { Keeps table.old table.new }
 {
     let marked = table.with_value(function, value)?;
@@ -35,8 +34,7 @@ pub(crate) fn where_value(
 pub(crate) fn where_passed(table: &mut Diagrams, list: u32, given: u32) -> Result<u32, NoMemory>
     requires list { list < count_of table.old }
     requires given { given < count_of table.old }
-    ensures below { IfOk result (λ r. r < count_of table.new) }
-    ensures exact { IfOk result (λ r. IsSetOf table.new r (λ h. InSet table.old given h × (value_at table.old list (number h) ≡ Some 1))) }
+    ensures set { IfOk result (λ r. IsSet table.new r (λ h. InSet table.old given h × (value_at table.old list (number h) ≡ Some 1))) }
     ensures kept { Keeps table.old table.new }
 {
     // No list, and one that passes everything.
@@ -58,8 +56,7 @@ pub(crate) fn where_passed_after(
 ) -> Result<u32, NoMemory>
     requires list { list < count_of table.old }
     requires given { given < count_of table.old }
-    ensures below { IfOk result (λ r. r < count_of table.new) }
-    ensures exact { IfOk result (λ r. IsSetOf table.new r (λ h. InSet table.old given h × (value_at table.old list (number (applied stamp.now h)) ≡ Some 1))) }
+    ensures set { IfOk result (λ r. IsSet table.new r (λ h. InSet table.old given h × (value_at table.old list (number (applied stamp.now h)) ≡ Some 1))) }
     ensures kept { Keeps table.old table.new }
 {
     if *stamp == Stamp::none() {

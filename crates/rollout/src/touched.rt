@@ -3,7 +3,7 @@
 ghost use Rattle.std.specs.Prelude.{ℕ, ◌≡◌, ◌<◌, IfOk};
 ghost use Rattle.hdr_bits.specs.HeaderBits.{number};
 ghost use Rattle.hdr_bits.specs.CubeBits.{IsIn};
-ghost use Rattle.cube_diagram.specs.Functions.{Functions, Keeps, count_of};
+ghost use Rattle.cube_diagram.specs.Functions.{Functions, Keeps};
 ghost use Rattle.indexmap.specs.IndexMap.{get};
 ghost use Rattle.difference_reach.specs.Reaches.{AreNumbers, IsReach};
 ghost use Rattle.net_forms.specs.Pairs.{ArePreparedParts};
@@ -11,7 +11,7 @@ ghost use Rattle.net_types.specs.World.{World, same_place};
 ghost use Rattle.net_view.specs.Borrowed.{world_of};
 ghost use Rattle.place_ways.specs.Places.{ArePlaceWays};
 ghost use Rattle.set_walk.specs.Scopes.{AreAlikeBeyond};
-ghost use Rattle.set_walk.specs.Sets.{IsSetOf};
+ghost use Rattle.set_walk.specs.Sets.{IsSet};
 ghost use Rattle.rollout.specs.Touched.{AreTouched, IsTouchedSo, MayTouch};
 
 use cube_diagram::Diagrams;
@@ -136,8 +136,7 @@ fn is_touched(table: &mut Diagrams, reach: &Reach, question: &Question) -> Resul
 
 // The headers of a filter.
 fn filter_set(table: &mut Diagrams, filter: &Cube) -> Result<u32, NoMemory>
-    ensures below { IfOk result (λ r. r < count_of table.new) }
-    ensures exact { IfOk result (λ r. IsSetOf table.new r (λ h. IsIn filter.now (number h))) }
+    ensures set { IfOk result (λ r. IsSet table.new r (λ h. IsIn filter.now (number h))) }
     ensures kept { Keeps table.old table.new }
 {
     let set = table.add_entry(&[*filter], 1)?;

@@ -36,7 +36,7 @@ loop-number-preserved c =
     let q : Question = get_or questions n d in
     let made = c.in_ok-breaking.ensures in
     let y = c.answer_by.result in
-    let right : IsAnswer w t q y = c.answer_by.ensures w t q made.exact in
+    let right : IsAnswer w t q y = c.answer_by.ensures w t q made.set in
     record {
       kept = keeps_then c.args.table.now c.loop-number.table c.breaking.new.table c.loop-number.invariant.kept made.kept;
       walks = made.walks;

@@ -4,7 +4,10 @@ use Rattle.ask_query.specs.Reaching.{EndsNamed}
 use Rattle.ask_query.proofs.AnswerLemmas.{with_filter}
 use Rattle.ask_query.proofs.answers.ending.Goals as goal
 
-pub returns-clause-exact : goal.returns-clause-exact
-returns-clause-exact c =
+pub returns-clause-set : goal.returns-clause-set
+returns-clause-set c =
     let q = c.args.question.now in
-    with_filter c.headers_to.new.table c.filter_set.new.table c.both.new.table c.in_ok-there.there c.in_ok-filter.filter c.in_ok-set.set (EndsNamed c.args.table.now c.args.ends.now q.to) (λ h. IsIn q.filter (number h)) c.in_ok-filter.ensures.kept c.in_ok-there.ensures.below c.in_ok-there.ensures.exact c.in_ok-filter.ensures.exact c.in_ok-set.ensures.exact
+    record {
+      below = c.in_ok-set.ensures.set.below;
+      exact = with_filter c.headers_to.new.table c.filter_set.new.table c.both.new.table c.in_ok-there.there c.in_ok-filter.filter c.in_ok-set.set (EndsNamed c.args.table.now c.args.ends.now q.to) (λ h. IsIn q.filter (number h)) c.in_ok-filter.ensures.kept c.in_ok-there.ensures.set.below c.in_ok-there.ensures.set.exact c.in_ok-filter.ensures.set.exact c.in_ok-set.ensures.set.exact;
+    }

@@ -8,11 +8,14 @@ use Rattle.net_types.specs.Questions.{ReachesNamed}
 use Rattle.ask_query.proofs.AnswerLemmas.{without_those, walks_kept}
 use Rattle.ask_query.proofs.answers.not_reaching.Goals as goal
 
-pub returns-clause-exact : goal.returns-clause-exact
-returns-clause-exact c =
+pub returns-clause-set : goal.returns-clause-set
+returns-clause-set c =
     let q = c.args.question.now in
     let w = world_of c.args.asked.now.net.now.world in
-    without_those c.reaching.new.table c.filter_set.new.table c.without.new.table c.in_ok-those.those c.in_ok-filter.filter c.in_ok-set.set (ReachesNamed w c.args.asked.now.ttl q.from q.to) (λ h. IsIn q.filter (number h)) c.in_ok-filter.ensures.kept c.in_ok-those.ensures.below c.in_ok-those.ensures.exact c.in_ok-filter.ensures.exact c.in_ok-set.ensures.exact
+    record {
+      below = c.in_ok-set.ensures.set.below;
+      exact = without_those c.reaching.new.table c.filter_set.new.table c.without.new.table c.in_ok-those.those c.in_ok-filter.filter c.in_ok-set.set (ReachesNamed w c.args.asked.now.ttl q.from q.to) (λ h. IsIn q.filter (number h)) c.in_ok-filter.ensures.kept c.in_ok-those.ensures.set.below c.in_ok-those.ensures.set.exact c.in_ok-filter.ensures.set.exact c.in_ok-set.ensures.set.exact;
+    }
 
 pub returns-clause-walks : goal.returns-clause-walks
 returns-clause-walks c =

@@ -37,11 +37,14 @@ loop-group-preserved c =
     let among = item_among xs i x c.loop-group-test.true e in
     record {
       kept = keeps_then f c.loop-group.table c.with_group.new.table c.loop-group.invariant.kept c.in_ok-set.ensures.kept;
-      below = c.in_ok-set.ensures.below;
-      exact = ways_more f (InSet f c.nothing-set.result) (λ m _. GoesOn m) c.loop-group.table c.with_group.new.table xs i x (λ m _. GoesOn m) c.loop-group.set c.in_ok-set.set c.loop-group.invariant.kept (c.requires.groups x among).below c.loop-group-test.true e (λ h v. (λ g. g, λ g. g)) c.loop-group.invariant.exact c.in_ok-set.ensures.exact;
+      below = c.in_ok-set.ensures.set.below;
+      exact = ways_more f (InSet f c.nothing-set.result) (λ m _. GoesOn m) c.loop-group.table c.with_group.new.table xs i x (λ m _. GoesOn m) c.loop-group.set c.in_ok-set.set c.loop-group.invariant.kept (c.requires.groups x among).below c.loop-group-test.true e (λ h v. (λ g. g, λ g. g)) c.loop-group.invariant.exact c.in_ok-set.ensures.set.exact;
     }
 
-pub returns-clause-exact : goal.returns-clause-exact
-returns-clause-exact c =
+pub returns-clause-set : goal.returns-clause-set
+returns-clause-set c =
     let f = c.args.table.now in
-    subst (λ xs. IsSetOf c.loop-group.table c.loop-group.set (ByWay f xs (λ m _. GoesOn m))) (take_all c.loop-group.group-index c.args.groups.now c.loop-group-test.false) (ways_alone f c.loop-group.table c.nothing-set.result c.loop-group.set _ (λ m _. GoesOn m) c.nothing-set.ensures.exact c.loop-group.invariant.exact)
+    record {
+      below = c.loop-group.invariant.below;
+      exact = subst (λ xs. IsSetOf c.loop-group.table c.loop-group.set (ByWay f xs (λ m _. GoesOn m))) (take_all c.loop-group.group-index c.args.groups.now c.loop-group-test.false) (ways_alone f c.loop-group.table c.nothing-set.result c.loop-group.set _ (λ m _. GoesOn m) c.nothing-set.ensures.exact c.loop-group.invariant.exact);
+    }

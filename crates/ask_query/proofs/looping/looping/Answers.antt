@@ -11,8 +11,8 @@ looping_in-requires-clause-net c = whole_kept c.args.table.now c.levels_of.new.t
 pub looping_in-requires-clause-levels : goal.looping_in-requires-clause-levels
 looping_in-requires-clause-levels c n l e = (c.in_ok-levels.ensures.levels n l (subst (λ (ls : List Level). slice_get ls n ≡ Some l) c.deref.ensures.value e)).told
 
-pub returns-clause-exact : goal.returns-clause-exact
-returns-clause-exact c =
+pub returns-clause-set : goal.returns-clause-set
+returns-clause-set c =
     let w = world_of c.args.net.now.world in
     let f = c.args.table.now in
-    c.in_ok-set.ensures.exact f c.args.domain c.args.place (subst (λ ls. AreLevels w f c.args.domain c.args.place c.levels_of.new.table ls) (sym c.deref.ensures.value) c.in_ok-levels.ensures.levels)
+    c.in_ok-set.ensures.set f c.args.domain c.args.place (subst (λ ls. AreLevels w f c.args.domain c.args.place c.levels_of.new.table ls) (sym c.deref.ensures.value) c.in_ok-levels.ensures.levels)

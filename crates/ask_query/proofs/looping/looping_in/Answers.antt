@@ -39,7 +39,7 @@ with_returning_from-requires-clause-groups c =
     subst (AreTold c.loop-room.table) (sym c.deref-in-loop-room.ensures.value) (told_kept c.args.table.now c.loop-room.table c.index-levels-from-in-loop-room.result.groups.items c.loop-room.invariant.kept (c.requires.levels i c.index-levels-from-in-loop-room.result there))
 
 pub with_returning_from-requires-clause-lasting : goal.with_returning_from-requires-clause-lasting
-with_returning_from-requires-clause-lasting c = kept_below c.headers_of.new.table c.loop-room.table c.in_ok-lasting.lasting c.loop-room.invariant.since c.in_ok-lasting.ensures.below
+with_returning_from-requires-clause-lasting c = kept_below c.headers_of.new.table c.loop-room.table c.in_ok-lasting.lasting c.loop-room.invariant.since c.in_ok-lasting.ensures.set.below
 
 pub loop-room-preserved : goal.loop-room-preserved
 loop-room-preserved c =
@@ -62,7 +62,7 @@ loop-room-preserved c =
     record {
       kept = keeps_then f t0 t1 c.loop-room.invariant.kept k;
       since = keeps_then g t0 t1 c.loop-room.invariant.since k;
-      below = c.in_ok-found.ensures.below;
+      below = c.in_ok-found.ensures.set.below;
       exact = λ start domain p levels.
           let level = level_kept w start f t0 domain p i c.index-levels-from-in-loop-room.result.groups.items c.loop-room.invariant.kept (levels i c.index-levels-from-in-loop-room.result there) in
           let final = subst (λ n. IsLevel w start domain p n f c.index-levels-from.result.groups.items) end (levels j c.index-levels-from.result last) in
@@ -70,12 +70,15 @@ loop-room-preserved c =
           (subst (λ gs. IsLevel w start domain p i t0 gs) (sym c.deref-in-loop-room.ensures.value) level)
           (λ h v inside loop.
           let group = loops_last w start f domain c.args.ttl p c.deref.result.now h v c.requires.ttl (subst (λ gs. IsLevel w start domain p (c.args.ttl - 1) f gs) (sym c.deref.ensures.value) final) inside loop in
-          (kept_set g t0 c.in_ok-lasting.lasting h c.loop-room.invariant.since c.in_ok-lasting.ensures.below).1 ((c.in_ok-lasting.ensures.exact h v).1 group))
+          (kept_set g t0 c.in_ok-lasting.lasting h c.loop-room.invariant.since c.in_ok-lasting.ensures.set.below).1 ((c.in_ok-lasting.ensures.set.exact h v).1 group))
           (c.loop-room.invariant.exact start domain p levels)
-          c.in_ok-found.ensures.exact;
+          c.in_ok-found.ensures.set.exact;
     }
 
-pub returns-clause-exact : goal.returns-clause-exact
-returns-clause-exact c start domain p levels =
+pub returns-clause-set : goal.returns-clause-set
+returns-clause-set c start domain p levels =
     let e : c.loop-room.room ≡ c.args.ttl = omega (arith, c.loop-room-test.false, c.loop-room.auto.room-end) in
-    loops_all (world_of c.args.net.now.world) start c.loop-room.table domain c.loop-room.found c.args.ttl c.loop-room.room p e (c.loop-room.invariant.exact start domain p levels)
+    record {
+      below = c.loop-room.invariant.below;
+      exact = loops_all (world_of c.args.net.now.world) start c.loop-room.table domain c.loop-room.found c.args.ttl c.loop-room.room p e (c.loop-room.invariant.exact start domain p levels);
+    }

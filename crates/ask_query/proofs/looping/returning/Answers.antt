@@ -58,7 +58,7 @@ loop-n-preserved c =
     let was = subst (IsLevel w f d p n t0) (sym c.deref.ensures.value) c.loop-n.invariant.level in
     let next = c.in_ok-steps.ensures.level f d p n was in
     let level = level_kept w f t1 t2 d p (n + 1) c.in_ok-steps.steps.items k2 next in
-    let found = subst (λ (xs : List Way). IsSetOf t2 c.in_ok-found.found (λ h. InSet t1 c.loop-n.found h ⊎ ByWay t1 xs (λ m _. m ≡ unchanged_at p) h)) c.deref-in-loop-n.ensures.value c.in_ok-found.ensures.exact in
+    let found = subst (λ (xs : List Way). IsSetOf t2 c.in_ok-found.found (λ h. InSet t1 c.loop-n.found h ⊎ ByWay t1 xs (λ m _. m ≡ unchanged_at p) h)) c.deref-in-loop-n.ensures.value c.in_ok-found.ensures.set.exact in
     let exact = returns_next w f t0 t1 t2 d p n c.in_ok-steps.steps.items c.loop-n.found c.in_ok-found.found k1 c.loop-n.invariant.below next c.loop-n.invariant.exact found in
     let left = level_kept w f t0 t2 d p n c.loop-n.groups.items k c.loop-n.invariant.level in
     let old_mark = level_kept w f t0 t2 d p c.loop-n.mark.moves c.loop-n.mark.groups.items k c.loop-n.invariant.mark in
@@ -68,15 +68,15 @@ loop-n-preserved c =
     let moves = later_moves n c.loop-n.mark mark c.loop-n.groups.items chosen c.loop-n.invariant.before in
     record {
       kept = keeps_then f t0 t2 c.loop-n.invariant.kept k;
-      below = c.in_ok-found.ensures.below;
+      below = c.in_ok-found.ensures.set.below;
       level = level;
       before = omega (arith, moves);
       mark = marked;
       exact = exact;
     }
 
-pub returns-then-same_groups-clause-exact : goal.returns-then-same_groups-clause-exact
-returns-then-same_groups-clause-exact c =
+pub returns-then-same_groups-clause-set : goal.returns-then-same_groups-clause-set
+returns-then-same_groups-clause-set c =
     let w = world_of c.args.net.now.world in
     let f = c.args.table.now in
     let d = c.args.domain in
@@ -91,7 +91,7 @@ returns-then-same_groups-clause-exact c =
     let was = subst (IsLevel w f d p n t0) (sym c.deref.ensures.value) c.loop-n.invariant.level in
     let next = c.in_ok-steps.ensures.level f d p n was in
     let level = level_kept w f t1 t2 d p (n + 1) c.in_ok-steps.steps.items k2 next in
-    let found = subst (λ (xs : List Way). IsSetOf t2 c.in_ok-found.found (λ h. InSet t1 c.loop-n.found h ⊎ ByWay t1 xs (λ m _. m ≡ unchanged_at p) h)) c.deref-in-loop-n.ensures.value c.in_ok-found.ensures.exact in
+    let found = subst (λ (xs : List Way). IsSetOf t2 c.in_ok-found.found (λ h. InSet t1 c.loop-n.found h ⊎ ByWay t1 xs (λ m _. m ≡ unchanged_at p) h)) c.deref-in-loop-n.ensures.value c.in_ok-found.ensures.set.exact in
     let exact = returns_next w f t0 t1 t2 d p n c.in_ok-steps.steps.items c.loop-n.found c.in_ok-found.found k1 c.loop-n.invariant.below next c.loop-n.invariant.exact found in
     let left = level_kept w f t0 t2 d p n c.loop-n.groups.items k c.loop-n.invariant.level in
     let old_mark = level_kept w f t0 t2 d p c.loop-n.mark.moves c.loop-n.mark.groups.items k c.loop-n.invariant.mark in
@@ -103,9 +103,15 @@ returns-then-same_groups-clause-exact c =
     let all = levels_same w f t2 d p mark.moves (n + 1) c.in_ok-steps.steps.items (subst (λ gs. IsLevel w f d p mark.moves t2 gs) same marked) level in
     let room : n < c.args.room = c.loop-n-test.true in
     let before : mark.moves < n + 1 = omega (arith, moves) in
-    returns_round w f t2 d c.in_ok-found.found p mark.moves (n + 1) c.args.room before (omega (arith, room)) all exact
+    record {
+      below = c.in_ok-found.ensures.set.below;
+      exact = returns_round w f t2 d c.in_ok-found.found p mark.moves (n + 1) c.args.room before (omega (arith, room)) all exact;
+    }
 
-pub returns-clause-exact : goal.returns-clause-exact
-returns-clause-exact c =
+pub returns-clause-set : goal.returns-clause-set
+returns-clause-set c =
     let e : c.loop-n.n ≡ c.args.room = omega (arith, c.loop-n-test.false, c.loop-n.auto.n-end) in
-    subst (λ n. IsSetOf c.loop-n.table c.loop-n.found (λ h. InSet c.args.table.now c.args.domain h × Returns (world_of c.args.net.now.world) n (state_at c.args.place h))) e c.loop-n.invariant.exact
+    record {
+      below = c.loop-n.invariant.below;
+      exact = subst (λ n. IsSetOf c.loop-n.table c.loop-n.found (λ h. InSet c.args.table.now c.args.domain h × Returns (world_of c.args.net.now.world) n (state_at c.args.place h))) e c.loop-n.invariant.exact;
+    }

@@ -46,17 +46,20 @@ loop-group-preserved c =
     let x : Way = get_or xs i (record { step = Drop; headers = 0 }) in
     let e = get_or_default xs i (record { step = Drop; headers = 0 }) x c.loop-group-test.true in
     let among = item_among xs i x c.loop-group-test.true e in
-    let made : IsSetOf c.with_returning.new.table c.in_ok-found.found (λ h. InSet g c.loop-group.found h ⊎ (InSet g x.headers h × (InSet g c.args.search.lasting h × IsBack w c.args.room x.step h))) = c.in_ok-found.ensures.exact in
+    let made : IsSetOf c.with_returning.new.table c.in_ok-found.found (λ h. InSet g c.loop-group.found h ⊎ (InSet g x.headers h × (InSet g c.args.search.lasting h × IsBack w c.args.room x.step h))) = c.in_ok-found.ensures.set.exact in
     record {
       kept = keeps_then f g c.with_returning.new.table c.loop-group.invariant.kept c.in_ok-found.ensures.kept;
-      below = c.in_ok-found.ensures.below;
+      below = c.in_ok-found.ensures.set.below;
       exact = ways_more f (InSet f c.args.search.found) (λ m h. InSet f c.args.search.lasting h × IsBack w c.args.room m h) g c.with_returning.new.table xs i x (λ m h. InSet g c.args.search.lasting h × IsBack w c.args.room m h) c.loop-group.found c.in_ok-found.found c.loop-group.invariant.kept (c.requires.groups x among).below c.loop-group-test.true e
           (λ h v. let k = kept_set f g c.args.search.lasting h c.loop-group.invariant.kept c.requires.lasting in (λ y. (k.0 y.0, y.1), λ y. (k.1 y.0, y.1)))
           c.loop-group.invariant.exact made;
     }
 
-pub returns-clause-exact : goal.returns-clause-exact
-returns-clause-exact c =
+pub returns-clause-set : goal.returns-clause-set
+returns-clause-set c =
     let f = c.args.table.now in
     let w = world_of c.args.net.now.world in
-    subst (λ xs. IsSetOf c.loop-group.table c.loop-group.found (λ h. InSet f c.args.search.found h ⊎ ByWay f xs (λ m g. InSet f c.args.search.lasting g × IsBack w c.args.room m g) h)) (take_all c.loop-group.group-index c.args.groups.now c.loop-group-test.false) c.loop-group.invariant.exact
+    record {
+      below = c.loop-group.invariant.below;
+      exact = subst (λ xs. IsSetOf c.loop-group.table c.loop-group.found (λ h. InSet f c.args.search.found h ⊎ ByWay f xs (λ m g. InSet f c.args.search.lasting g × IsBack w c.args.room m g) h)) (take_all c.loop-group.group-index c.args.groups.now c.loop-group-test.false) c.loop-group.invariant.exact;
+    }

@@ -37,14 +37,17 @@ loop-group-preserved c =
     let among = item_among xs i x c.loop-group-test.true e in
     let g = c.loop-group.table in
     let made : IsSetOf c.with_step.new.table c.in_ok-all.all (λ h. InSet g c.loop-group.all h ⊎ (InSet g x.headers h × (x.step ≡ unchanged_at c.args.place))) =
-    subst (λ s. IsSetOf c.with_step.new.table c.in_ok-all.all (λ h. InSet g c.loop-group.all h ⊎ (InSet g x.headers h × (x.step ≡ Go c.args.place s)))) c.none.ensures c.in_ok-all.ensures.exact in
+    subst (λ s. IsSetOf c.with_step.new.table c.in_ok-all.all (λ h. InSet g c.loop-group.all h ⊎ (InSet g x.headers h × (x.step ≡ Go c.args.place s)))) c.none.ensures c.in_ok-all.ensures.set.exact in
     record {
       kept = keeps_then f c.loop-group.table c.with_step.new.table c.loop-group.invariant.kept c.in_ok-all.ensures.kept;
-      below = c.in_ok-all.ensures.below;
+      below = c.in_ok-all.ensures.set.below;
       exact = ways_more f (InSet f c.args.set) (λ m _. m ≡ unchanged_at c.args.place) c.loop-group.table c.with_step.new.table xs i x (λ m _. m ≡ unchanged_at c.args.place) c.loop-group.all c.in_ok-all.all c.loop-group.invariant.kept (c.requires.groups x among).below c.loop-group-test.true e (λ h v. (λ g. g, λ g. g)) c.loop-group.invariant.exact made;
     }
 
-pub returns-clause-exact : goal.returns-clause-exact
-returns-clause-exact c =
+pub returns-clause-set : goal.returns-clause-set
+returns-clause-set c =
     let f = c.args.table.now in
-    subst (λ xs. IsSetOf c.loop-group.table c.loop-group.all (λ h. InSet f c.args.set h ⊎ ByWay f xs (λ m _. m ≡ unchanged_at c.args.place) h)) (take_all c.loop-group.group-index c.args.groups.now c.loop-group-test.false) c.loop-group.invariant.exact
+    record {
+      below = c.loop-group.invariant.below;
+      exact = subst (λ xs. IsSetOf c.loop-group.table c.loop-group.all (λ h. InSet f c.args.set h ⊎ ByWay f xs (λ m _. m ≡ unchanged_at c.args.place) h)) (take_all c.loop-group.group-index c.args.groups.now c.loop-group-test.false) c.loop-group.invariant.exact;
+    }

@@ -33,9 +33,13 @@ loop-end-preserved c =
     let e = get_or_default xs i (record { outcome = Dropped; headers = 0 }) x c.loop-end-test.true in
     record {
       kept = keeps_then f c.loop-end.table c.with_end.new.table c.loop-end.invariant.kept c.in_ok-set.ensures.kept;
-      below = c.in_ok-set.ensures.below;
-      exact = ends_more f c.loop-end.table c.with_end.new.table xs i x c.args.place c.loop-end.set c.in_ok-set.set c.loop-end.invariant.kept (c.requires.ends x (item_among xs i x c.loop-end-test.true e)) c.loop-end-test.true e c.loop-end.invariant.exact c.in_ok-set.ensures.exact;
+      below = c.in_ok-set.ensures.set.below;
+      exact = ends_more f c.loop-end.table c.with_end.new.table xs i x c.args.place c.loop-end.set c.in_ok-set.set c.loop-end.invariant.kept (c.requires.ends x (item_among xs i x c.loop-end-test.true e)) c.loop-end-test.true e c.loop-end.invariant.exact c.in_ok-set.ensures.set.exact;
     }
 
-pub returns-clause-exact : goal.returns-clause-exact
-returns-clause-exact c = subst (λ xs. IsSetOf c.loop-end.table c.loop-end.set (EndsAt c.args.table.now xs c.args.place)) (take_all c.loop-end.end-index c.args.ends.now c.loop-end-test.false) c.loop-end.invariant.exact
+pub returns-clause-set : goal.returns-clause-set
+returns-clause-set c =
+    record {
+      below = c.loop-end.invariant.below;
+      exact = subst (λ xs. IsSetOf c.loop-end.table c.loop-end.set (EndsAt c.args.table.now xs c.args.place)) (take_all c.loop-end.end-index c.args.ends.now c.loop-end-test.false) c.loop-end.invariant.exact;
+    }

@@ -11,4 +11,4 @@ either-requires-clause-first c =
 pub returns-clause-joined : goal.returns-clause-joined
 returns-clause-joined c =
     let o = c.in_ok-headers.ensures in
-    inr (widened c.args.table.now c.either.new.table c.args.region.now c.args.groups.now.items c.deref.result.now c.in-Some.index c.in_ok-headers.headers c.index.result.now c.index_mut.result.now c.deref.ensures.value c.in-Some.ensures c.index.ensures c.index_mut.ensures.value o.below o.exact)
+    inr (widened c.args.table.now c.either.new.table c.args.region.now c.args.groups.now.items c.deref.result.now c.in-Some.index c.in_ok-headers.headers c.index.result.now c.index_mut.result.now c.deref.ensures.value c.in-Some.ensures c.index.ensures c.index_mut.ensures.value o.set.below o.set.exact)

@@ -20,4 +20,4 @@ returns-clause-parts c =
     let rest = c.in_ok-rest.rest in
     let zip : AllZip (IsPartBy a.lists.items) sets parts = subst (λ (ls : List FactList). AllZip (IsPartBy ls) sets parts) c.deref.ensures.value (subst (λ (ss : List ValueSet). AllZip (IsPartBy c.deref.result.now) ss parts) c.deref-2.ensures.value c.in_ok-parts.ensures) in
     let last = subst (λ (fs : List WalkFact). AddsPart g rest fs parts c.add_part.new.parts.items) c.new.ensures.items c.in_ok-add_part.ensures in
-    parts_numbered f0 f1 f2 g c.args.domain c.args.facts.now a sets parts rest c.add_part.new.parts.items c.in_ok-numbers.ensures.kept c.in_ok-sets.ensures.kept c.in_ok-rest.ensures.kept c.requires.domain (facts_kept f0 f1 c.args.facts.now c.in_ok-numbers.ensures.kept c.requires.facts) c.in_ok-numbers.ensures.numbers c.in_ok-sets.ensures.sets zip c.in_ok-rest.ensures.below c.in_ok-rest.ensures.exact last
+    parts_numbered f0 f1 f2 g c.args.domain c.args.facts.now a sets parts rest c.add_part.new.parts.items c.in_ok-numbers.ensures.kept c.in_ok-sets.ensures.kept c.in_ok-rest.ensures.kept c.requires.domain (facts_kept f0 f1 c.args.facts.now c.in_ok-numbers.ensures.kept c.requires.facts) c.in_ok-numbers.ensures.numbers c.in_ok-sets.ensures.sets zip c.in_ok-rest.ensures.set.below c.in_ok-rest.ensures.set.exact last

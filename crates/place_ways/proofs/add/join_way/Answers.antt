@@ -30,4 +30,4 @@ returns-clause-added c =
     let x : Way = record { step = c.args.step; headers = c.in-Some.ensures.0 } in
     let e = at_list _ xs i x c.deref.ensures.value c.in-Some.ensures.1 in
     let same = c.index.ensures ∙ get_is xs i x c.index.result.now e in
-    joined f c.either.new.table xs i c.in-Some.ensures.0 c.args.headers c.in_ok-all.all c.args.step c.in_ok-all.ensures.kept e c.in_ok-all.ensures.below (subst (λ (y : Way). IsSetOf c.either.new.table c.in_ok-all.all (λ h. InSet f y.headers h ⊎ InSet f c.args.headers h)) same c.in_ok-all.ensures.exact) c.requires.fits c.requires.ways
+    joined f c.either.new.table xs i c.in-Some.ensures.0 c.args.headers c.in_ok-all.all c.args.step c.in_ok-all.ensures.kept e c.in_ok-all.ensures.set.below (subst (λ (y : Way). IsSetOf c.either.new.table c.in_ok-all.all (λ h. InSet f y.headers h ⊎ InSet f c.args.headers h)) same c.in_ok-all.ensures.set.exact) c.requires.fits c.requires.ways

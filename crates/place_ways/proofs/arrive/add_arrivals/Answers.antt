@@ -58,7 +58,7 @@ returns-clause-added c =
     let l = c.in_ok-denied in
     let scope = c.args.at.scope in
     let xs : Header → List Move = λ h. moves_in w seat (coming_in seat h) in
-    same_lists d0 d3 scope (λ h. if passes (verdict list h) then xs h else Drop ∷ []) (moves_at w (Some seat)) c.args.ways.now.items c.add_let_in.new.ways.items (λ h. sym (opened (is_enabled i) (passes (verdict list h)) (xs h) (Drop ∷ []) (sym c.is_enabled.ensures ∙ c.if-not-is_enabled.false))) (let_in_added d0 d1 d2 d3 list c.args.at.form.input scope p.passed l.denied xs c.args.ways.now.items c.add_way-2.new.ways.items c.add_let_in.new.ways.items c.requires.at.form.input c.requires.at.scope p.ensures.below c.requires.ways p.ensures.kept l.ensures.kept p.ensures.exact l.ensures.exact c.in_ok-add_way-2.ensures c.in_ok-add_let_in.ensures.added)
+    same_lists d0 d3 scope (λ h. if passes (verdict list h) then xs h else Drop ∷ []) (moves_at w (Some seat)) c.args.ways.now.items c.add_let_in.new.ways.items (λ h. sym (opened (is_enabled i) (passes (verdict list h)) (xs h) (Drop ∷ []) (sym c.is_enabled.ensures ∙ c.if-not-is_enabled.false))) (let_in_added d0 d1 d2 d3 list c.args.at.form.input scope p.passed l.denied xs c.args.ways.now.items c.add_way-2.new.ways.items c.add_let_in.new.ways.items c.requires.at.form.input c.requires.at.scope p.ensures.set.below c.requires.ways p.ensures.kept l.ensures.kept p.ensures.set.exact l.ensures.set.exact c.in_ok-add_way-2.ensures c.in_ok-add_let_in.ensures.added)
 
 pub returns-clause-kept : goal.returns-clause-kept
 returns-clause-kept c =
@@ -83,5 +83,5 @@ add_let_in-requires-clause-within c h v i =
     let d1 = c.where_passed.new.table in
     let d2 = c.without.new.table in
     let p = c.in_ok-passed in
-    let j = (kept_set d1 d2 p.passed h c.in_ok-denied.ensures.kept p.ensures.below).0 i in
-    (kept_set d0 d2 c.args.at.scope h (keeps_then d0 d1 d2 p.ensures.kept c.in_ok-denied.ensures.kept) c.requires.at.scope).1 ((p.ensures.exact h v).0 j).0
+    let j = (kept_set d1 d2 p.passed h c.in_ok-denied.ensures.kept p.ensures.set.below).0 i in
+    (kept_set d0 d2 c.args.at.scope h (keeps_then d0 d1 d2 p.ensures.kept c.in_ok-denied.ensures.kept) c.requires.at.scope).1 ((p.ensures.set.exact h v).0 j).0

@@ -60,7 +60,7 @@ loop-way-preserved c =
     let s = c.in_ok-headers in
     record {
       kept = keeps_then f g0 g2 c.loop-way.invariant.kept (keeps_then g0 g1 g2 b.ensures.kept s.ensures.kept);
-      added = behind_more f g0 g1 g2 c.args.given b.before s.headers c.args.stamp c.args.base.now c.loop-way.way-index w c.since.result c.args.ways.now.items c.loop-way.ways.items c.add_way.new.ways.items c.requires.stamp c.loop-way.invariant.kept b.ensures.kept s.ensures.kept c.requires.given (c.requires.base_given w among).below c.loop-way-test.true e c.since.ensures b.ensures.exact s.ensures.exact c.loop-way.invariant.added c.in_ok-add_way.ensures;
+      added = behind_more f g0 g1 g2 c.args.given b.before s.headers c.args.stamp c.args.base.now c.loop-way.way-index w c.since.result c.args.ways.now.items c.loop-way.ways.items c.add_way.new.ways.items c.requires.stamp c.loop-way.invariant.kept b.ensures.kept s.ensures.kept c.requires.given (c.requires.base_given w among).below c.loop-way-test.true e c.since.ensures b.ensures.set.exact s.ensures.set.exact c.loop-way.invariant.added c.in_ok-add_way.ensures;
     }
 
 pub returns-clause-added : goal.returns-clause-added

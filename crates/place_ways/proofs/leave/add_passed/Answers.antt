@@ -19,7 +19,7 @@ add_sent-requires-clause-given c =
     let d1 = c.where_passed_after.new.table in
     let d2 = c.without.new.table in
     let d3 = c.join_way.new.table in
-    kept_below d1 d3 c.in_ok-passed.passed (keeps_then d1 d2 d3 c.in_ok-lost.ensures.kept c.in_ok-join_way.ensures.kept) c.in_ok-passed.ensures.below
+    kept_below d1 d3 c.in_ok-passed.passed (keeps_then d1 d2 d3 c.in_ok-lost.ensures.kept c.in_ok-join_way.ensures.kept) c.in_ok-passed.ensures.set.below
 
 pub returns-clause-added : goal.returns-clause-added
 returns-clause-added c =
@@ -33,7 +33,7 @@ returns-clause-added c =
     let s = c.args.stamp in
     let p = c.in_ok-passed in
     let l = c.in_ok-lost in
-    passed_lost d0 d1 d2 d3 d4 (list_named c.args.leaving.at.seat.device.now.config out.seat.interface.now.output) out.form.output c.args.given p.passed l.lost s (λ h. send w out.seat.place (next_address c.args.leaving.next h) (applied s h) (segment_of w out.seat.place)) c.args.ways.now.items c.join_way.new.ways.items c.add_sent.new.ways.items c.requires.stamp c.requires.out.output c.requires.given p.ensures.below c.requires.ways p.ensures.kept l.ensures.kept c.in_ok-join_way.ensures.kept p.ensures.exact l.ensures.exact c.in_ok-join_way.ensures.added c.in_ok-add_sent.ensures.added
+    passed_lost d0 d1 d2 d3 d4 (list_named c.args.leaving.at.seat.device.now.config out.seat.interface.now.output) out.form.output c.args.given p.passed l.lost s (λ h. send w out.seat.place (next_address c.args.leaving.next h) (applied s h) (segment_of w out.seat.place)) c.args.ways.now.items c.join_way.new.ways.items c.add_sent.new.ways.items c.requires.stamp c.requires.out.output c.requires.given p.ensures.set.below c.requires.ways p.ensures.kept l.ensures.kept c.in_ok-join_way.ensures.kept p.ensures.set.exact l.ensures.set.exact c.in_ok-join_way.ensures.added c.in_ok-add_sent.ensures.added
 
 pub returns-clause-kept : goal.returns-clause-kept
 returns-clause-kept c =

@@ -9,7 +9,7 @@ add_sent_to-requires-clause-ways c = given_kept c.args.table.now c.where_value.n
 pub returns-clause-added : goal.returns-clause-added
 returns-clause-added c =
     let l = c.args.link in
-    address_added l.wiring.now l.place l.stamp c.args.table.now c.where_value.new.table c.add_sent_to.new.table c.args.function c.args.address c.args.given c.in_ok-part.part c.args.ways.now.items c.add_sent_to.new.ways.items c.in_ok-part.ensures.kept c.requires.ways c.requires.tells c.in_ok-part.ensures.exact c.in_ok-add_sent_to.ensures.added
+    address_added l.wiring.now l.place l.stamp c.args.table.now c.where_value.new.table c.add_sent_to.new.table c.args.function c.args.address c.args.given c.in_ok-part.part c.args.ways.now.items c.add_sent_to.new.ways.items c.in_ok-part.ensures.kept c.requires.ways c.requires.tells c.in_ok-part.ensures.set.exact c.in_ok-add_sent_to.ensures.added
 
 pub returns-clause-kept : goal.returns-clause-kept
 returns-clause-kept c = keeps_then c.args.table.now c.where_value.new.table c.add_sent_to.new.table c.in_ok-part.ensures.kept c.in_ok-add_sent_to.ensures.kept

@@ -32,7 +32,7 @@ join_way-requires-clause-ways c = given_kept c.add_listed.new.table c.without.ne
 pub returns-clause-added : goal.returns-clause-added
 returns-clause-added c =
     let l = c.args.link in
-    others_added l.wiring.now l.place l.stamp c.args.table.now c.destination_among.new.table c.add_listed.new.table c.without.new.table c.join_way.new.table c.as_slice-listed.result.now c.in_ok-function.function c.args.given c.in_ok-rest.rest c.args.addresses.now.otherwise c.stamped_step-step.result c.args.ways.now.items c.add_listed.new.ways.items c.join_way.new.ways.items c.in_ok-function.ensures.kept c.in_ok-add_listed.ensures.kept c.in_ok-rest.ensures.kept c.requires.given c.requires.ways c.in_ok-function.ensures.told c.stamped_step-step.ensures (λ a n. c.requires.otherwise a (λ i. n (subst (λ xs. Contains xs a) (sym c.as_slice-listed.ensures.value) i))) c.in_ok-rest.ensures.exact c.in_ok-add_listed.ensures.added c.in_ok-join_way.ensures.added
+    others_added l.wiring.now l.place l.stamp c.args.table.now c.destination_among.new.table c.add_listed.new.table c.without.new.table c.join_way.new.table c.as_slice-listed.result.now c.in_ok-function.function c.args.given c.in_ok-rest.rest c.args.addresses.now.otherwise c.stamped_step-step.result c.args.ways.now.items c.add_listed.new.ways.items c.join_way.new.ways.items c.in_ok-function.ensures.kept c.in_ok-add_listed.ensures.kept c.in_ok-rest.ensures.kept c.requires.given c.requires.ways c.in_ok-function.ensures.told c.stamped_step-step.ensures (λ a n. c.requires.otherwise a (λ i. n (subst (λ xs. Contains xs a) (sym c.as_slice-listed.ensures.value) i))) c.in_ok-rest.ensures.set.exact c.in_ok-add_listed.ensures.added c.in_ok-join_way.ensures.added
 
 pub returns-clause-kept : goal.returns-clause-kept
 returns-clause-kept c =

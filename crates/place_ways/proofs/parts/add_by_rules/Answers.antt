@@ -30,7 +30,7 @@ add_by_outers-requires-clause-translation c =
 pub add_by_outers-requires-clause-rule : goal.add_by_outers-requires-clause-rule
 add_by_outers-requires-clause-rule c h v i =
     let t = c.requires.translation in
-    sym (t.rule h v) ∙ (sym (c.loop-rule.invariant.kept.value c.args.translation.rule t.rule_below (number h)) ∙ ((c.in_ok-part.ensures.exact h v).0 i).1)
+    sym (t.rule h v) ∙ (sym (c.loop-rule.invariant.kept.value c.args.translation.rule t.rule_below (number h)) ∙ ((c.in_ok-part.ensures.set.exact h v).0 i).1)
 
 pub loop-rule-preserved : goal.loop-rule-preserved
 loop-rule-preserved c =
@@ -47,7 +47,7 @@ loop-rule-preserved c =
     let o = c.in_ok-add_by_outers.ensures in
     record {
       kept = keeps_then f l.table k l.invariant.kept (keeps_then l.table g2 k p.ensures.kept o.kept);
-      added = value_parts _ f l.table g2 k t.rule c.args.given p.part (rule_of t) xs i one c.args.parts.now.items l.parts.items c.add_by_outers.new.parts.items l.invariant.kept p.ensures.kept o.kept r.rule_below c.requires.given r.rule c.loop-rule-test.true (get_or_default xs i 0 one c.loop-rule-test.true) p.ensures.exact l.invariant.added o.added;
+      added = value_parts _ f l.table g2 k t.rule c.args.given p.part (rule_of t) xs i one c.args.parts.now.items l.parts.items c.add_by_outers.new.parts.items l.invariant.kept p.ensures.kept o.kept r.rule_below c.requires.given r.rule c.loop-rule-test.true (get_or_default xs i 0 one c.loop-rule-test.true) p.ensures.set.exact l.invariant.added o.added;
     }
 
 pub returns-clause-added : goal.returns-clause-added

@@ -35,7 +35,7 @@ loop-outer-preserved c =
     let part : Part = record { headers = n.headers; stamp = c.stamp_of-stamp.result } in
     record {
       kept = keeps_then f l.table g2 l.invariant.kept n.ensures.kept;
-      added = rw c.in_ok-push.ensures.items (value_parts _ f l.table g2 g2 t.outer c.args.given n.headers (outer_of t) xs i one c.args.parts.now.items l.parts.items _ l.invariant.kept n.ensures.kept (keeps_same g2) r.outer_below c.requires.given r.outer c.loop-outer-test.true (get_or_default xs i 0 one c.loop-outer-test.true) n.ensures.exact l.invariant.added (part_pushed _ g2 l.parts.items part n.ensures.below (search rules) (λ h v j. let u = (n.ensures.exact h v).0 j in c.stamp_of-stamp.ensures h (c.requires.rule h v ((kept_set f l.table c.args.given h l.invariant.kept c.requires.given).0 u.0)) (sym (r.outer h v) ∙ (sym (l.invariant.kept.value t.outer r.outer_below (number h)) ∙ u.1)))));
+      added = rw c.in_ok-push.ensures.items (value_parts _ f l.table g2 g2 t.outer c.args.given n.headers (outer_of t) xs i one c.args.parts.now.items l.parts.items _ l.invariant.kept n.ensures.kept (keeps_same g2) r.outer_below c.requires.given r.outer c.loop-outer-test.true (get_or_default xs i 0 one c.loop-outer-test.true) n.ensures.set.exact l.invariant.added (part_pushed _ g2 l.parts.items part n.ensures.set.below (search rules) (λ h v j. let u = (n.ensures.set.exact h v).0 j in c.stamp_of-stamp.ensures h (c.requires.rule h v ((kept_set f l.table c.args.given h l.invariant.kept c.requires.given).0 u.0)) (sym (r.outer h v) ∙ (sym (l.invariant.kept.value t.outer r.outer_below (number h)) ∙ u.1)))));
     }
 
 pub returns-clause-added : goal.returns-clause-added

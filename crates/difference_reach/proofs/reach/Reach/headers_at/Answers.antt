@@ -17,7 +17,7 @@ returns-clause-within c old new scope a h v i =
     let d = c.headers_at.new.table in
     let g = c.both.new.table in
     let l = c.requires.scope in
-    let there = (kept_set d g r.scope h c.in_ok-set.ensures.kept (kept_below f d r.scope c.in_ok-meeting.ensures.kept l)).1 ((c.in_ok-set.ensures.exact h v).0 i).0 in
+    let there = (kept_set d g r.scope h c.in_ok-set.ensures.kept (kept_below f d r.scope c.in_ok-meeting.ensures.kept l)).1 ((c.in_ok-set.ensures.set.exact h v).0 i).0 in
     subst (λ s. InSet g s h) a.told_for there
 
 pub returns-clause-walks : goal.returns-clause-walks
@@ -27,9 +27,9 @@ returns-clause-walks c old new scope a beyond h v n t =
     let d = c.headers_at.new.table in
     let own = get same_place r.own in
     let at = get same_place r.places.now in
-    let exact = subst (λ l. IsSetOf d c.in_ok-meeting.meeting (λ h. MayMeet f own at l c.args.place h)) c.deref.ensures.value c.in_ok-meeting.ensures.exact in
+    let exact = subst (λ l. IsSetOf d c.in_ok-meeting.meeting (λ h. MayMeet f own at l c.args.place h)) c.deref.ensures.value c.in_ok-meeting.ensures.set.exact in
     let mine = λ (i : InSet f scope h). (kept_set f d r.scope h c.in_ok-meeting.ensures.kept c.requires.scope).1 (subst (λ s. InSet f s h) (sym a.told_for) i) in
-    same_walks old new f scope own at r.back.items a.closed beyond a.headers c.args.place h v (λ i m. n ((c.in_ok-set.ensures.exact h v).1 (mine i, (exact h v).1 m))) t
+    same_walks old new f scope own at r.back.items a.closed beyond a.headers c.args.place h v (λ i m. n ((c.in_ok-set.ensures.set.exact h v).1 (mine i, (exact h v).1 m))) t
 
 pub returns-clause-equal : goal.returns-clause-equal
 returns-clause-equal c old new scope a beyond h v n t =
@@ -38,6 +38,6 @@ returns-clause-equal c old new scope a beyond h v n t =
     let d = c.headers_at.new.table in
     let own = get same_place r.own in
     let at = get same_place r.places.now in
-    let exact = subst (λ l. IsSetOf d c.in_ok-meeting.meeting (λ h. MayMeet f own at l c.args.place h)) c.deref.ensures.value c.in_ok-meeting.ensures.exact in
+    let exact = subst (λ l. IsSetOf d c.in_ok-meeting.meeting (λ h. MayMeet f own at l c.args.place h)) c.deref.ensures.value c.in_ok-meeting.ensures.set.exact in
     let mine = λ (i : InSet f scope h). (kept_set f d r.scope h c.in_ok-meeting.ensures.kept c.requires.scope).1 (subst (λ s. InSet f s h) (sym a.told_for) i) in
-    untouched old new f scope own at r.back.items a.closed beyond a.headers c.args.place h v (λ i m. n ((c.in_ok-set.ensures.exact h v).1 (mine i, (exact h v).1 m))) t
+    untouched old new f scope own at r.back.items a.closed beyond a.headers c.args.place h v (λ i m. n ((c.in_ok-set.ensures.set.exact h v).1 (mine i, (exact h v).1 m))) t
