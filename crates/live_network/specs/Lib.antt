@@ -1,0 +1,7 @@
+pub mod Shown
+pub mod Replaced
+pub mod Touched
+pub mod Clearing
+pub mod Live
+pub mod Near
+pub mod Putting

@@ -1,0 +1,75 @@
+//! The ways of the places of a network, in tables that grow, and one device of it compiled anew.
+
+ghost use Rattle.std.specs.Prelude.{◌≡◌, ◌<◌, IfOk, OnOk};
+ghost use Rattle.hdr_bits.specs.declared.header.Header.{Header};
+ghost use Rattle.indexmap.specs.IndexMap.{get};
+ghost use Rattle.cube_diagram.specs.Functions.{count_of};
+ghost use Rattle.net_types.specs.World.{same_place};
+ghost use Rattle.net_view.specs.Borrowed.{world_of};
+ghost use Rattle.place_ways.specs.Devices.{PutsDevice};
+ghost use Rattle.set_walk.specs.Sets.{InSet};
+ghost use Rattle.live_network.specs.Live.{IsLive, IsRenewed};
+
+use link_sends::Wiring;
+use net_forms::{Tables, compile_device, compile_network};
+use net_types::{NetDevice, NoMemory};
+use net_view::WorldRef;
+use place_ways::{NetworkWays, WiredDevice, put_device, ways_of_one};
+use std::alloc::Global;
+
+/// What is kept of a network that changes device by device.
+#[derive(Drop)]
+pub struct LiveWays {
+    pub tables: Tables,
+    /// All headers, a set of the table.
+    pub scope: u32,
+    /// The ways of its places.
+    pub ways: NetworkWays,
+}
+
+/// Compiles the network, and finds the ways of all its places for all headers.
+///
+/// # Errors
+///
+/// There was no memory.
+pub fn open_ways(alloc: Global, world: WorldRef) -> Result<LiveWays, NoMemory>
+    ensures { IfOk result (IsLive (world_of world.entry)) }
+{
+    let mut tables = Tables::new(alloc)?;
+    let form = compile_network(alloc, &mut tables, world, None, &[])?;
+    let scope = tables.diagrams.everything();
+    let ways = ways_of_one(alloc, &tables.fates, &form, scope, &mut tables.diagrams)?;
+    Ok(LiveWays {
+        tables,
+        scope,
+        ways,
+    })
+}
+
+/// Compiles the device, and puts the ways of its interfaces over these links: the place of each has those that are found now, and
+/// every other place those that it had.
+///
+/// # Errors
+///
+/// There was no memory. Then some of its places may have new ways.
+pub(crate) fn put_compiled(
+    alloc: Global,
+    live: &mut LiveWays,
+    wiring: &Wiring,
+    device: &NetDevice,
+) -> Result<(), NoMemory>
+    requires scope { live.old.scope < count_of live.old.tables.diagrams }
+    requires all { (h : Header) → InSet live.old.tables.diagrams live.old.scope h }
+    ensures put { OnOk result (PutsDevice wiring.now live.new.tables.diagrams live.old.scope live.new.ways.lists.items device.now (get same_place live.old.ways.positions) (get same_place live.new.ways.positions)) }
+    ensures renewed { IsRenewed live.old live.new }
+{
+    let form = compile_device(alloc, &mut live.tables, device, &[])?;
+    let at = WiredDevice {
+        fates: &live.tables.fates,
+        wiring,
+        device,
+        form: &form,
+        scope: live.scope,
+    };
+    put_device(alloc, &mut live.tables.diagrams, at, &mut live.ways)
+}
