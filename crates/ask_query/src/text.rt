@@ -5,7 +5,7 @@ ghost use Rattle.ask_query.specs.AnswerText.{answer_text, answers_from, answers_
 
 use hdr_bits::Header;
 use net_types::{Answer, NoMemory};
-use report_text::{decimal_bytes, header_bytes};
+use report_text::{append, decimal_bytes, header_bytes};
 use std::alloc::Global;
 
 /// Answers as text: in their order, numbered from 1, a line `K holds` or `K fails HEADER`, and last `failed N` with the number
@@ -34,13 +34,6 @@ fn fails(answer: &Answer) -> bool
         Answer::Holds => false,
         Answer::Fails { header: _ } => true,
     }
-}
-
-fn append(out: &mut Vec<u8>, text: &[u8]) -> Result<(), NoMemory>
-    ensures { OnOk result (out.new.items ≡ out.old.items ++ text.now) }
-{
-    out.extend_from_slice(text)?;
-    Ok(())
 }
 
 fn append_answers(alloc: Global, out: &mut Vec<u8>, answers: &[Answer]) -> Result<(), NoMemory>

@@ -44,7 +44,7 @@ fn report_of(alloc: Global, devices: &[Loaded]) -> Result<Report, NoMemory>
         let lists = device.config.lists.as_slice();
         count = append_lists(alloc, &mut text, &device.file, lists, count)?;
     }
-    append_total(alloc, &mut text, count)?;
+    append_total(&mut text, count)?;
     Ok(Report {
         text,
         affected: count > 0,

@@ -7,7 +7,7 @@ ghost use Rattle.audit_core.specs.AuditText.{is_dead, kind_text, row_text, by_te
 use acl_audit::{Finding, FindingKind, Taken};
 use hdr_bits::Cube;
 use net_types::{NoMemory, Text};
-use report_text::{cube_bytes, decimal_bytes};
+use report_text::{append, append_number, cube_bytes};
 use std::alloc::Global;
 
 /// A list with its findings. Where memory runs out, a part of the text may stand there.
@@ -22,34 +22,19 @@ pub(crate) fn append_findings(
     ensures { OnOk result (out.new.items ≡ out.old.items ++ findings_text file.now name.now findings.now) }
 {
     append_name(out, file, name)?;
-    append_kinds(alloc, out, findings)?;
+    append_kinds(out, findings)?;
     append_each(alloc, out, findings)?;
     Ok(())
 }
 
 /// The last line, with the number of all findings.
 #[tactic(auto, unfolding(crate::specs::AuditText::total_text))]
-pub(crate) fn append_total(alloc: Global, out: &mut Vec<u8>, count: u64) -> Result<(), NoMemory>
+pub(crate) fn append_total(out: &mut Vec<u8>, count: u64) -> Result<(), NoMemory>
     ensures { OnOk result (out.new.items ≡ out.old.items ++ total_text count) }
 {
     append(out, b"findings ")?;
-    append_number(alloc, out, count)?;
+    append_number(out, count)?;
     append(out, b"\n")?;
-    Ok(())
-}
-
-fn append(out: &mut Vec<u8>, text: &[u8]) -> Result<(), NoMemory>
-    ensures { OnOk result (out.new.items ≡ out.old.items ++ text.now) }
-{
-    out.extend_from_slice(text)?;
-    Ok(())
-}
-
-fn append_number(alloc: Global, out: &mut Vec<u8>, number: u64) -> Result<(), NoMemory>
-    ensures { OnOk result (out.new.items ≡ out.old.items ++ decimal number) }
-{
-    let digits = decimal_bytes(alloc, number)?;
-    append(out, &digits)?;
     Ok(())
 }
 
@@ -66,13 +51,13 @@ fn append_name(out: &mut Vec<u8>, file: &Text, name: &Text) -> Result<(), NoMemo
 
 // How many findings there are of each kind.
 #[tactic(auto, unfolding(crate::specs::AuditText::kinds_text))]
-fn append_kinds(alloc: Global, out: &mut Vec<u8>, findings: &[Finding]) -> Result<(), NoMemory>
+fn append_kinds(out: &mut Vec<u8>, findings: &[Finding]) -> Result<(), NoMemory>
     ensures { OnOk result (out.new.items ≡ out.old.items ++ kinds_text findings.now) }
 {
     append(out, b" dead ")?;
-    append_number(alloc, out, dead_count(findings))?;
+    append_number(out, dead_count(findings))?;
     append(out, b" redundant ")?;
-    append_number(alloc, out, redundant_count(findings))?;
+    append_number(out, redundant_count(findings))?;
     append(out, b"\n")?;
     Ok(())
 }
@@ -112,17 +97,17 @@ fn append_each(alloc: Global, out: &mut Vec<u8>, findings: &[Finding]) -> Result
 fn append_finding(alloc: Global, out: &mut Vec<u8>, finding: &Finding) -> Result<(), NoMemory>
     ensures { OnOk result (out.new.items ≡ out.old.items ++ finding_text finding.now) }
 {
-    append_entry(alloc, out, finding)?;
+    append_entry(out, finding)?;
     append_all_taken(alloc, out, finding.taken.as_slice())?;
     Ok(())
 }
 
 #[tactic(auto, unfolding(crate::specs::AuditText::entry_text))]
-fn append_entry(alloc: Global, out: &mut Vec<u8>, finding: &Finding) -> Result<(), NoMemory>
+fn append_entry(out: &mut Vec<u8>, finding: &Finding) -> Result<(), NoMemory>
     ensures { OnOk result (out.new.items ≡ out.old.items ++ entry_text finding.now) }
 {
     append(out, b"entry ")?;
-    append_number(alloc, out, u64::from(finding.sequence))?;
+    append_number(out, u64::from(finding.sequence))?;
     append(out, kind_text(finding.kind))?;
     Ok(())
 }
@@ -150,19 +135,19 @@ fn append_all_taken(alloc: Global, out: &mut Vec<u8>, taken: &[Taken]) -> Result
 fn append_taken(alloc: Global, out: &mut Vec<u8>, taken: &Taken) -> Result<(), NoMemory>
     ensures { OnOk result (out.new.items ≡ out.old.items ++ taken_text taken.now) }
 {
-    append_by(alloc, out, taken)?;
+    append_by(out, taken)?;
     append_rows(alloc, out, taken.rows.as_slice())?;
     Ok(())
 }
 
 #[tactic(auto, unfolding(crate::specs::AuditText::by_text))]
-fn append_by(alloc: Global, out: &mut Vec<u8>, taken: &Taken) -> Result<(), NoMemory>
+fn append_by(out: &mut Vec<u8>, taken: &Taken) -> Result<(), NoMemory>
     ensures { OnOk result (out.new.items ≡ out.old.items ++ by_text taken.now) }
 {
     append(out, b"by ")?;
-    append_number(alloc, out, u64::from(taken.sequence))?;
+    append_number(out, u64::from(taken.sequence))?;
     append(out, b" rows ")?;
-    append_number(alloc, out, taken.rows.as_slice().len() as u64)?;
+    append_number(out, taken.rows.as_slice().len() as u64)?;
     append(out, b"\n")?;
     Ok(())
 }

@@ -4,17 +4,12 @@
 ghost use Rattle.std.specs.Prelude.{◌≡◌, ◌++◌, OnOk};
 ghost use Rattle.doctor_warnings.specs.Texts.{head_text, place_text, shown_behind, shown_word};
 
-use finding_texts::{append, append_number, append_shown};
+use finding_texts::append_shown;
 use net_types::{NoMemory, Text};
-use std::alloc::Global;
+use report_text::{append, append_number};
 
 /// `PATH:LINE`
-pub(crate) fn append_place(
-    alloc: Global,
-    out: &mut Vec<u8>,
-    path: &Text,
-    line: u64,
-) -> Result<(), NoMemory>
+pub(crate) fn append_place(out: &mut Vec<u8>, path: &Text, line: u64) -> Result<(), NoMemory>
     ensures { OnOk result (out.new.items ≡ out.old.items ++ place_text path.now line) }
 {
     append_shown(out, path.as_bytes())?;
@@ -22,19 +17,14 @@ pub(crate) fn append_place(
         return Ok(());
     }
     append(out, b":")?;
-    append_number(alloc, out, line)
+    append_number(out, line)
 }
 
 /// `PATH:LINE: `
-pub(crate) fn append_head(
-    alloc: Global,
-    out: &mut Vec<u8>,
-    path: &Text,
-    line: u64,
-) -> Result<(), NoMemory>
+pub(crate) fn append_head(out: &mut Vec<u8>, path: &Text, line: u64) -> Result<(), NoMemory>
     ensures { OnOk result (out.new.items ≡ out.old.items ++ head_text path.now line) }
 {
-    append_place(alloc, out, path, line)?;
+    append_place(out, path, line)?;
     append(out, b": ")
 }
 

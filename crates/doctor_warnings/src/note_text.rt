@@ -10,14 +10,13 @@ use crate::heads::{append_behind, append_head, append_place};
 use crate::limit::{Limit, LimitKind};
 use crate::listing::ListedLine;
 use crate::network::Notes;
-use finding_texts::{append, append_number, append_shown};
+use finding_texts::append_shown;
 use net_types::{NoMemory, Text};
-use std::alloc::Global;
+use report_text::{append, append_number};
 use text_tallies::Tally;
 
 /// The limits, where there is a warning or all is asked for.
 pub(crate) fn append_limits_if(
-    alloc: Global,
     out: &mut Vec<u8>,
     all: bool,
     notes: &Notes,
@@ -28,19 +27,14 @@ pub(crate) fn append_limits_if(
     if !all && notes.warnings.as_slice().is_empty() {
         return Ok(());
     }
-    append_limits(alloc, out, notes.limits.as_slice(), rows)
+    append_limits(out, notes.limits.as_slice(), rows)
 }
 
-fn append_limits(
-    alloc: Global,
-    out: &mut Vec<u8>,
-    limits: &[Limit],
-    rows: &[Tally],
-) -> Result<(), NoMemory>
+fn append_limits(out: &mut Vec<u8>, limits: &[Limit], rows: &[Tally]) -> Result<(), NoMemory>
     ensures { OnOk result (out.new.items ≡ out.old.items ++ flat_map (limit_line limits.now) rows.now) }
 {
     for row in rows {
-        append_limit(alloc, out, row, limit_in(limits, row.first))?;
+        append_limit(out, row, limit_in(limits, row.first))?;
     }
     Ok(())
 }
@@ -52,12 +46,7 @@ fn limit_in(limits: &[Limit], place: usize) -> Option<&Limit>
 }
 
 /// A limit, with how often it is met.
-fn append_limit(
-    alloc: Global,
-    out: &mut Vec<u8>,
-    row: &Tally,
-    limit: Option<&Limit>,
-) -> Result<(), NoMemory>
+fn append_limit(out: &mut Vec<u8>, row: &Tally, limit: Option<&Limit>) -> Result<(), NoMemory>
     ensures { OnOk result (out.new.items ≡ out.old.items ++ limit_by row.now (option_copied limit.entry)) }
 {
     let Some(limit) = limit else {
@@ -65,25 +54,19 @@ fn append_limit(
     };
     append(out, b"limit: ")?;
     append_shown(out, row.text.as_bytes())?;
-    append_count(alloc, out, row.count, &limit.path, limit.line)?;
+    append_count(out, row.count, &limit.path, limit.line)?;
     append_kind(out, limit.kind)?;
     append(out, b"\n")
 }
 
 /// How many there are, and where the first one is.
-fn append_count(
-    alloc: Global,
-    out: &mut Vec<u8>,
-    count: u64,
-    path: &Text,
-    line: u64,
-) -> Result<(), NoMemory>
+fn append_count(out: &mut Vec<u8>, count: u64, path: &Text, line: u64) -> Result<(), NoMemory>
     ensures { OnOk result (out.new.items ≡ out.old.items ++ count_text count path.now line) }
 {
     append(out, b" (")?;
-    append_number(alloc, out, count)?;
+    append_number(out, count)?;
     append(out, b"), first ")?;
-    append_place(alloc, out, path, line)
+    append_place(out, path, line)
 }
 
 fn append_kind(out: &mut Vec<u8>, kind: LimitKind) -> Result<(), NoMemory>
@@ -107,7 +90,6 @@ fn append_kind(out: &mut Vec<u8>, kind: LimitKind) -> Result<(), NoMemory>
 
 /// The lines that are passed over, counted by their words.
 pub(crate) fn append_counted(
-    alloc: Global,
     out: &mut Vec<u8>,
     lines: &[ListedLine],
     rows: &[Tally],
@@ -115,7 +97,7 @@ pub(crate) fn append_counted(
     ensures { OnOk result (out.new.items ≡ out.old.items ++ flat_map (counted_line lines.now) rows.now) }
 {
     for row in rows {
-        append_row(alloc, out, row, line_in(lines, row.first))?;
+        append_row(out, row, line_in(lines, row.first))?;
     }
     Ok(())
 }
@@ -126,12 +108,7 @@ fn line_in(lines: &[ListedLine], place: usize) -> Option<&ListedLine>
     lines.get(place)
 }
 
-fn append_row(
-    alloc: Global,
-    out: &mut Vec<u8>,
-    row: &Tally,
-    line: Option<&ListedLine>,
-) -> Result<(), NoMemory>
+fn append_row(out: &mut Vec<u8>, row: &Tally, line: Option<&ListedLine>) -> Result<(), NoMemory>
     ensures { OnOk result (out.new.items ≡ out.old.items ++ counted_if_any row.now (option_copied line.entry)) }
 {
     let Some(line) = line else {
@@ -139,28 +116,24 @@ fn append_row(
     };
     append(out, b"passed over: ")?;
     append_shown(out, row.text.as_bytes())?;
-    append_count(alloc, out, row.count, &line.path, line.line)?;
+    append_count(out, row.count, &line.path, line.line)?;
     append(out, b"\n")
 }
 
 /// The lines that are passed over, one by one.
-pub(crate) fn append_listed(
-    alloc: Global,
-    out: &mut Vec<u8>,
-    lines: &[ListedLine],
-) -> Result<(), NoMemory>
+pub(crate) fn append_listed(out: &mut Vec<u8>, lines: &[ListedLine]) -> Result<(), NoMemory>
     ensures { OnOk result (out.new.items ≡ out.old.items ++ flat_map listed_line lines.now) }
 {
     for line in lines {
-        append_line(alloc, out, line)?;
+        append_line(out, line)?;
     }
     Ok(())
 }
 
-fn append_line(alloc: Global, out: &mut Vec<u8>, line: &ListedLine) -> Result<(), NoMemory>
+fn append_line(out: &mut Vec<u8>, line: &ListedLine) -> Result<(), NoMemory>
     ensures { OnOk result (out.new.items ≡ out.old.items ++ listed_line line.now) }
 {
-    append_head(alloc, out, &line.path, line.line)?;
+    append_head(out, &line.path, line.line)?;
     append(out, b"passed over")?;
     append_behind(out, &line.text)?;
     append(out, b"\n")

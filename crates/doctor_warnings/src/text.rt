@@ -8,8 +8,8 @@ use crate::listing::ListedLine;
 use crate::network::Notes;
 use crate::note_text::{append_counted, append_limits_if, append_listed};
 use crate::warning_text::append_warnings;
-use finding_texts::{append, append_number};
 use net_types::NoMemory;
+use report_text::{append, append_number};
 use std::alloc::Global;
 use text_tallies::{Tallies, Tally};
 
@@ -56,12 +56,12 @@ fn text_of(
 {
     let mut out = Vec::new(alloc);
     let warnings = notes.warnings.as_slice();
-    append_warnings(alloc, &mut out, warnings)?;
-    append_limits_if(alloc, &mut out, all, notes, limits)?;
-    append_counted(alloc, &mut out, notes.lines.as_slice(), lines)?;
-    append_listed(alloc, &mut out, notes.lines.as_slice())?;
+    append_warnings(&mut out, warnings)?;
+    append_limits_if(&mut out, all, notes, limits)?;
+    append_counted(&mut out, notes.lines.as_slice(), lines)?;
+    append_listed(&mut out, notes.lines.as_slice())?;
     append(&mut out, b"warnings ")?;
-    append_number(alloc, &mut out, warnings.len() as u64)?;
+    append_number(&mut out, warnings.len() as u64)?;
     append(&mut out, b"\n")?;
     Ok(out)
 }

@@ -7,44 +7,40 @@ ghost use Rattle.doctor_warnings.specs.Texts.{look_text, reason_text, refused_te
 
 use crate::heads::{append_behind, append_head, append_word};
 use crate::warning::{Reason, Warning};
-use finding_texts::{append, append_config, append_finding, append_shown, append_stray, line_of};
+use finding_texts::{append_config, append_finding, append_shown, append_stray, line_of};
 use look_alikes::LookAlike;
 use net_types::{NoMemory, Text};
-use std::alloc::Global;
+use report_text::append;
 
 /// The warnings, a line each.
-pub(crate) fn append_warnings(
-    alloc: Global,
-    out: &mut Vec<u8>,
-    warnings: &[Warning],
-) -> Result<(), NoMemory>
+pub(crate) fn append_warnings(out: &mut Vec<u8>, warnings: &[Warning]) -> Result<(), NoMemory>
     ensures { OnOk result (out.new.items ≡ out.old.items ++ flat_map warning_line warnings.now) }
 {
     for warning in warnings {
-        append_warning(alloc, out, warning)?;
+        append_warning(out, warning)?;
         append(out, b"\n")?;
     }
     Ok(())
 }
 
-fn append_warning(alloc: Global, out: &mut Vec<u8>, warning: &Warning) -> Result<(), NoMemory>
+fn append_warning(out: &mut Vec<u8>, warning: &Warning) -> Result<(), NoMemory>
     ensures { OnOk result (out.new.items ≡ out.old.items ++ warning_text warning.now) }
 {
     match warning {
         Warning::NoConfigs { folder } => {
-            append_head(alloc, out, folder, 0)?;
+            append_head(out, folder, 0)?;
             append(out, b"no file whose name ends in .cfg")
         }
         Warning::Unread { path } => {
-            append_head(alloc, out, path, 0)?;
+            append_head(out, path, 0)?;
             append(out, b"not read, since its name doesn't end in .cfg")
         }
         Warning::OneFolder { path } => {
-            append_head(alloc, out, path, 0)?;
+            append_head(out, path, 0)?;
             append(out, b"the other folder has no file of this name")
         }
         Warning::HostTaken { path, first } => {
-            append_head(alloc, out, path, 0)?;
+            append_head(out, path, 0)?;
             append(out, b"refused hostname taken by ")?;
             append_shown(out, first.as_bytes())
         }
@@ -55,7 +51,7 @@ fn append_warning(alloc: Global, out: &mut Vec<u8>, warning: &Warning) -> Result
             word,
             text,
         } => {
-            append_head(alloc, out, path, u64::from(*line))?;
+            append_head(out, path, u64::from(*line))?;
             append_refused(out, kind, word, text)
         }
         Warning::Passed {
@@ -64,21 +60,21 @@ fn append_warning(alloc: Global, out: &mut Vec<u8>, warning: &Warning) -> Result
             reason,
             text,
         } => {
-            append_head(alloc, out, path, *line)?;
+            append_head(out, path, *line)?;
             append_reason(out, *reason)?;
             append_behind(out, text)
         }
         Warning::Config { path, finding } => {
-            append_head(alloc, out, path, 0)?;
-            append_config(alloc, out, finding)
+            append_head(out, path, 0)?;
+            append_config(out, finding)
         }
         Warning::Place { path, two, finding } => {
-            append_head(alloc, out, path, u64::from(line_of(finding)))?;
+            append_head(out, path, u64::from(line_of(finding)))?;
             append_finding(out, *two, finding)
         }
         Warning::Stray { path, two, next } => {
-            append_head(alloc, out, path, u64::from(next.line))?;
-            append_stray(alloc, out, *two, next)
+            append_head(out, path, u64::from(next.line))?;
+            append_stray(out, *two, next)
         }
     }
 }

@@ -7,13 +7,13 @@ ghost use Rattle.edits_core.specs.Edits.{IsReported, Makes, first_ttl, has_rows,
 ghost use Rattle.edits_core.specs.Job.{IsEdited, Refuses, old_world};
 
 use crate::reviewing::make;
-use crate::text::{append, append_count};
+use crate::text::append_count;
 use edit_lines::EditLine;
 use incr_review::Review;
 use job_core::{Report, Stop};
 use net_load::Numbered;
 use net_types::{List, Names, NoMemory, Section};
-use report_text::report_bytes;
+use report_text::{append, report_bytes};
 use std::alloc::Global;
 
 // The TTL with which packets enter.
@@ -57,7 +57,7 @@ fn make_all(
             Ok(count) => count,
             Err(stop) => return Err(stop),
         };
-        append_count(alloc, &mut text, line.line, count)?;
+        append_count(&mut text, line.line, count)?;
     }
     Ok(List::new(text))
 }

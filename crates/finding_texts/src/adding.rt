@@ -4,31 +4,7 @@ ghost use Rattle.report_text.specs.FieldText.{address_text};
 ghost use Rattle.finding_texts.specs.Shown.{hex_digit, shown, shown_byte};
 
 use net_types::{NoMemory, Text};
-use report_text::{address_bytes, decimal_bytes};
-use std::alloc::Global;
-
-/// A text as it is.
-pub fn append(out: &mut Vec<u8>, text: &[u8]) -> Result<(), NoMemory>
-    ensures { OnOk result (out.new.items ≡ out.old.items ++ text.now) }
-{
-    out.extend_from_slice(text)?;
-    Ok(())
-}
-
-/// A number in decimal.
-pub fn append_number(alloc: Global, out: &mut Vec<u8>, number: u64) -> Result<(), NoMemory>
-    ensures { OnOk result (out.new.items ≡ out.old.items ++ decimal number) }
-{
-    let digits = decimal_bytes(alloc, number)?;
-    append(out, &digits)
-}
-
-pub(crate) fn append_address(alloc: Global, out: &mut Vec<u8>, address: u32) -> Result<(), NoMemory>
-    ensures { OnOk result (out.new.items ≡ out.old.items ++ address_text address) }
-{
-    let text = address_bytes(alloc, address)?;
-    append(out, &text)
-}
+use report_text::append;
 
 /// Bytes of a file, without a control character.
 pub fn append_shown(out: &mut Vec<u8>, text: &[u8]) -> Result<(), NoMemory>

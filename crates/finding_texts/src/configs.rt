@@ -2,10 +2,10 @@
 ghost use Rattle.std.specs.Prelude.{◌≡◌, ◌++◌, OnOk};
 ghost use Rattle.finding_texts.specs.ConfigTexts.{config_text, direction_text, field_text, host_text, masked_text, named_text, route_text, way_text};
 
-use crate::adding::{append, append_address, append_number, append_text};
+use crate::adding::append_text;
 use config_checks::{AddressField, ConfigFinding, Direction};
 use net_types::{Masked, NoMemory, Subnet, Text};
-use std::alloc::Global;
+use report_text::{append, append_address, append_number};
 
 const IS_OWN: &[u8] = b": the next hop is the device itself, so it is never valid";
 
@@ -17,11 +17,7 @@ const BY_ITSELF: &[u8] =
     b": the next hop is looked up in the route's own prefix, so one of the choices is a drop";
 
 /// A finding.
-pub fn append_config(
-    alloc: Global,
-    out: &mut Vec<u8>,
-    finding: &ConfigFinding,
-) -> Result<(), NoMemory>
+pub fn append_config(out: &mut Vec<u8>, finding: &ConfigFinding) -> Result<(), NoMemory>
     ensures { OnOk result (out.new.items ≡ out.old.items ++ config_text finding.now) }
 {
     match finding {
@@ -47,7 +43,7 @@ pub fn append_config(
             sequence,
             field,
             address,
-        } => append_mask(alloc, out, list, *sequence, *field, *address),
+        } => append_mask(out, list, *sequence, *field, *address),
         ConfigFinding::NoInside => append(
             out,
             b"address translation without an interface inside that is up",
@@ -56,56 +52,51 @@ pub fn append_config(
             out,
             b"address translation without an interface outside that is up",
         ),
-        ConfigFinding::NotInside { local } => append_host(alloc, out, *local, b"inside"),
-        ConfigFinding::NotOutside { global } => append_host(alloc, out, *global, b"outside"),
-        _ => append_route(alloc, out, finding),
+        ConfigFinding::NotInside { local } => append_host(out, *local, b"inside"),
+        ConfigFinding::NotOutside { global } => append_host(out, *global, b"outside"),
+        _ => append_route(out, finding),
     }
 }
 
 /// A host that isn't behind its side.
-fn append_host(alloc: Global, out: &mut Vec<u8>, address: u32, side: &[u8]) -> Result<(), NoMemory>
+fn append_host(out: &mut Vec<u8>, address: u32, side: &[u8]) -> Result<(), NoMemory>
     ensures { OnOk result (out.new.items ≡ out.old.items ++ (host_text address ++ side.now)) }
 {
     append(out, b"address translation of ")?;
-    append_address(alloc, out, address)?;
+    append_address(out, address)?;
     append(out, b", to which no route leads out of an interface ")?;
     append(out, side)
 }
 
 /// What is odd with a route; nothing of another finding.
-fn append_route(alloc: Global, out: &mut Vec<u8>, finding: &ConfigFinding) -> Result<(), NoMemory>
+fn append_route(out: &mut Vec<u8>, finding: &ConfigFinding) -> Result<(), NoMemory>
     ensures { OnOk result (out.new.items ≡ out.old.items ++ route_text finding.now) }
 {
     match finding {
-        ConfigFinding::NextIsOwn { prefix, next } => {
-            append_next(alloc, out, *prefix, *next, IS_OWN)
-        }
-        ConfigFinding::NextNowhere { prefix, next } => {
-            append_next(alloc, out, *prefix, *next, NOWHERE)
-        }
+        ConfigFinding::NextIsOwn { prefix, next } => { append_next(out, *prefix, *next, IS_OWN) }
+        ConfigFinding::NextNowhere { prefix, next } => { append_next(out, *prefix, *next, NOWHERE) }
         ConfigFinding::NextByDefault { prefix, next } => {
-            append_next(alloc, out, *prefix, *next, BY_DEFAULT)
+            append_next(out, *prefix, *next, BY_DEFAULT)
         }
         ConfigFinding::NextByItself { prefix, next } => {
-            append_next(alloc, out, *prefix, *next, BY_ITSELF)
+            append_next(out, *prefix, *next, BY_ITSELF)
         }
         ConfigFinding::NextElsewhere {
             prefix,
             interface,
             next,
-        } => append_elsewhere(alloc, out, *prefix, interface, *next),
+        } => append_elsewhere(out, *prefix, interface, *next),
         ConfigFinding::NeverFloats {
             prefix,
             distance,
             next,
-        } => append_floating(alloc, out, *prefix, *distance, *next),
+        } => append_floating(out, *prefix, *distance, *next),
         _ => Ok(()),
     }
 }
 
 /// An entry with a mask for a wildcard.
 fn append_mask(
-    alloc: Global,
     out: &mut Vec<u8>,
     list: &Text,
     sequence: u32,
@@ -115,21 +106,21 @@ fn append_mask(
     ensures { OnOk result (out.new.items ≡ out.old.items ++ config_text (ConfigFinding.MaskAsWildcard list.now sequence field address)) }
 {
     append(out, b"entry ")?;
-    append_number(alloc, out, u64::from(sequence))?;
+    append_number(out, u64::from(sequence))?;
     append(out, b" of the access list ")?;
     append_text(out, list)?;
     append(out, b" has a mask for a wildcard: ")?;
     append_field(out, field)?;
-    append_masked(alloc, out, address)
+    append_masked(out, address)
 }
 
 /// An address and its wildcard.
-fn append_masked(alloc: Global, out: &mut Vec<u8>, address: Masked) -> Result<(), NoMemory>
+fn append_masked(out: &mut Vec<u8>, address: Masked) -> Result<(), NoMemory>
     ensures { OnOk result (out.new.items ≡ out.old.items ++ masked_text address) }
 {
-    append_address(alloc, out, address.value)?;
+    append_address(out, address.value)?;
     append(out, b" ")?;
-    append_address(alloc, out, address.wild)
+    append_address(out, address.wild)
 }
 
 /// `interface I names the access list L in`
@@ -167,34 +158,27 @@ fn append_field(out: &mut Vec<u8>, field: AddressField) -> Result<(), NoMemory>
 }
 
 /// `route A/N by H`
-fn append_way(alloc: Global, out: &mut Vec<u8>, prefix: Subnet, next: u32) -> Result<(), NoMemory>
+fn append_way(out: &mut Vec<u8>, prefix: Subnet, next: u32) -> Result<(), NoMemory>
     ensures { OnOk result (out.new.items ≡ out.old.items ++ way_text prefix next) }
 {
     append(out, b"route ")?;
-    append_address(alloc, out, prefix.address)?;
+    append_address(out, prefix.address)?;
     append(out, b"/")?;
-    append_number(alloc, out, u64::from(prefix.length))?;
+    append_number(out, u64::from(prefix.length))?;
     append(out, b" by ")?;
-    append_address(alloc, out, next)
+    append_address(out, next)
 }
 
 /// A way, and what is odd with its next hop.
-fn append_next(
-    alloc: Global,
-    out: &mut Vec<u8>,
-    prefix: Subnet,
-    next: u32,
-    what: &[u8],
-) -> Result<(), NoMemory>
+fn append_next(out: &mut Vec<u8>, prefix: Subnet, next: u32, what: &[u8]) -> Result<(), NoMemory>
     ensures { OnOk result (out.new.items ≡ out.old.items ++ (way_text prefix next ++ what.now)) }
 {
-    append_way(alloc, out, prefix, next)?;
+    append_way(out, prefix, next)?;
     append(out, what)
 }
 
 /// A route whose next hop isn't behind its interface.
 fn append_elsewhere(
-    alloc: Global,
     out: &mut Vec<u8>,
     prefix: Subnet,
     interface: &Text,
@@ -202,7 +186,7 @@ fn append_elsewhere(
 ) -> Result<(), NoMemory>
     ensures { OnOk result (out.new.items ≡ out.old.items ++ config_text (ConfigFinding.NextElsewhere prefix interface.now next)) }
 {
-    append_way(alloc, out, prefix, next)?;
+    append_way(out, prefix, next)?;
     append(out, b": no subnet of interface ")?;
     append_text(out, interface)?;
     append(out, b" holds the next hop")
@@ -210,7 +194,6 @@ fn append_elsewhere(
 
 /// A route that has a backup and stays.
 fn append_floating(
-    alloc: Global,
     out: &mut Vec<u8>,
     prefix: Subnet,
     distance: u8,
@@ -218,9 +201,9 @@ fn append_floating(
 ) -> Result<(), NoMemory>
     ensures { OnOk result (out.new.items ≡ out.old.items ++ config_text (ConfigFinding.NeverFloats prefix distance next)) }
 {
-    append_way(alloc, out, prefix, next)?;
+    append_way(out, prefix, next)?;
     append(out, b" at distance ")?;
-    append_number(alloc, out, u64::from(distance))?;
+    append_number(out, u64::from(distance))?;
     append(
         out,
         b": another route holds the next hop, so the backup never takes over",

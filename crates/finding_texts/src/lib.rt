@@ -8,7 +8,7 @@ mod configs;
 mod places;
 mod strays;
 
-pub use adding::{append, append_number, append_shown};
+pub use adding::append_shown;
 pub use configs::append_config;
 pub use places::{append_finding, line_of};
 pub use strays::append_stray;

@@ -2,9 +2,10 @@
 ghost use Rattle.std.specs.Prelude.{◌≡◌, ◌++◌, OnOk};
 ghost use Rattle.finding_texts.specs.PlaceTexts.{apart_text, line_of, near_text, place_name, place_text, where_text};
 
-use crate::adding::{append, append_text};
+use crate::adding::append_text;
 use net_types::{NoMemory, Text};
 use place_checks::{Networks, PlaceFinding};
+use report_text::append;
 
 /// The line of the link table that a finding is about; 0 where it is about none.
 pub fn line_of(finding: &PlaceFinding) -> u32

@@ -5,12 +5,14 @@
 //! what a run leaves behind (`Ends`), and `finish` and `refuse` end a run so.
 #![tactic(auto)]
 
+mod command_line;
 mod ending;
 mod file;
 mod report;
 mod stop;
 mod table;
 
+pub use command_line::words;
 pub use ending::{finish, no_memory, refuse};
 pub use file::read_bytes;
 pub use report::Report;

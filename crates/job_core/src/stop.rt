@@ -4,7 +4,7 @@ ghost use Rattle.std.specs.Prelude.{◌≡◌, ◌++◌, ◌∷◌, [], IfOk, On
 ghost use Rattle.job_core.specs.Stops.{status_of, line_of, word_text, refused_head, refused_tail, refused_line, path_line, taken_line};
 
 use net_types::{NoMemory, Text};
-use report_text::decimal_bytes;
+use report_text::{append, decimal_bytes};
 use std::alloc::Global;
 
 /// What is written where there is no memory.
@@ -114,13 +114,6 @@ impl Stop {
         }
         Ok(line)
     }
-}
-
-fn append(line: &mut Vec<u8>, piece: &[u8]) -> Result<(), NoMemory>
-    ensures { OnOk result (line.new.items ≡ line.old.items ++ piece.now) }
-{
-    line.extend_from_slice(piece)?;
-    Ok(())
 }
 
 fn append_with(line: &mut Vec<u8>, words: &[u8], path: &Text) -> Result<(), NoMemory>

@@ -26,24 +26,25 @@ pub fn address_bytes(alloc: Global, address: u32) -> Result<Vec<u8>, NoMemory>
     Ok(text)
 }
 
-// Each function below adds a text at the end. Where memory runs out, a part of the text may stand there.
-
-pub(crate) fn append(out: &mut Vec<u8>, text: &[u8]) -> Result<(), NoMemory>
+/// Adds a text at the end. Where memory runs out, a part of the text may stand there.
+pub fn append(out: &mut Vec<u8>, text: &[u8]) -> Result<(), NoMemory>
     ensures { OnOk result (out.new.items ≡ out.old.items ++ text.now) }
 {
     out.extend_from_slice(text)?;
     Ok(())
 }
 
-pub(crate) fn append_number<I: Integer>(out: &mut Vec<u8>, number: I) -> Result<(), NoMemory>
+/// Adds a number in decimal, likewise.
+pub fn append_number<I: Integer>(out: &mut Vec<u8>, number: I) -> Result<(), NoMemory>
     ensures { OnOk result (out.new.items ≡ out.old.items ++ I.text number) }
 {
     let mut buffer = Buffer::new();
     append(out, buffer.format(number).as_bytes())
 }
 
+/// Adds an IPv4 address, likewise.
 #[tactic(auto, unfolding(crate::specs::FieldText::address_text))]
-pub(crate) fn append_address(out: &mut Vec<u8>, address: u32) -> Result<(), NoMemory>
+pub fn append_address(out: &mut Vec<u8>, address: u32) -> Result<(), NoMemory>
     ensures { OnOk result (out.new.items ≡ out.old.items ++ address_text address) }
 {
     append_number(out, address >> 24)?;

@@ -1,24 +1,14 @@
 //! The program `rollout`: the words of the command line, the system's files and streams, and the status.
 #![tactic(auto)]
 
-use job_core::no_memory;
+use job_core::{no_memory, words};
 use net_io::{RealFiles, RealSink};
 use rollout_core::tool;
 use std::io::ErrorKind;
 use std::process::ExitCode;
 use std::sync::Wait;
 use std::thread::Threads;
-use std::{env, io};
 use steal_pool::OpenGate;
-
-// The words of the command line, without the program's name.
-fn words(rt: &HostRuntime) -> io::Result<Vec<String>> {
-    let mut words = Vec::new(rt.alloc());
-    for word in env::args(rt)?.skip(1) {
-        words.push(word)?;
-    }
-    Ok(words)
-}
 
 // The status of a run of these words.
 fn run_words<R: Threads + Wait + Sync>(rt: &HostRuntime, threads: &R, words: &[String]) -> u8 {

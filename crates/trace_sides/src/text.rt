@@ -9,7 +9,7 @@ ghost use Rattle.trace_sides.specs.Sides.{both_text, first_text, rest_text, side
 use crate::indented::append_indented;
 use crate::sides::shared;
 use net_types::{Names, NoMemory};
-use report_text::label_bytes;
+use report_text::{append, label_bytes};
 use std::alloc::Global;
 use walk_trace::{Trace, TraceState, state_bytes};
 
@@ -55,14 +55,6 @@ fn sides_at(
     append(&mut text, b"new:\n")?;
     append_indented(&mut text, &new_rest)?;
     Ok(text)
-}
-
-// Adds a text at the end. Where memory runs out, a part of it may stand there.
-fn append(out: &mut Vec<u8>, text: &[u8]) -> Result<(), NoMemory>
-    ensures { OnOk result (out.new.items ≡ out.old.items ++ text.now) }
-{
-    out.extend_from_slice(text)?;
-    Ok(())
 }
 
 fn append_both(out: &mut Vec<u8>, text: &[u8]) -> Result<(), NoMemory>

@@ -1,21 +1,11 @@
 //! The program `view`: the words of the command line, the system's files and streams, and the status.
 #![tactic(auto)]
 
-use job_core::no_memory;
+use job_core::{no_memory, words};
 use net_io::{RealFiles, RealSink};
 use std::io::ErrorKind;
 use std::process::ExitCode;
-use std::{env, io};
 use view_tool::tool;
-
-// The words of the command line, without the program's name.
-fn words(rt: &HostRuntime) -> io::Result<Vec<String>> {
-    let mut words = Vec::new(rt.alloc());
-    for word in env::args(rt)?.skip(1) {
-        words.push(word)?;
-    }
-    Ok(words)
-}
 
 // The status of a run of these words.
 fn run_words(rt: HostRuntime, words: &[String]) -> u8 {

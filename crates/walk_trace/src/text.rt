@@ -8,9 +8,10 @@ ghost use Rattle.walk_trace.specs.TraceText.{end_text, state_text, states_text, 
 
 use crate::types::{Trace, TraceChoice, TraceEnd, TraceFate, TraceState};
 use hdr_bits::Header;
-use itoa::{Buffer, Integer};
 use net_types::{Label, Names, NoMemory, Outcome, Place, Text, Verdict};
-use report_text::{address_bytes, header_bytes, label_bytes, outcome_bytes};
+use report_text::{
+    append, append_address, append_number, header_bytes, label_bytes, outcome_bytes,
+};
 use std::alloc::Global;
 
 /// A trace as text, each line of it ended by LF.
@@ -56,27 +57,6 @@ pub fn state_bytes(
 }
 
 // Each function below adds a text at the end. Where memory runs out, a part of the text may stand there.
-
-fn append(out: &mut Vec<u8>, text: &[u8]) -> Result<(), NoMemory>
-    ensures { OnOk result (out.new.items ≡ out.old.items ++ text.now) }
-{
-    out.extend_from_slice(text)?;
-    Ok(())
-}
-
-fn append_number<I: Integer>(out: &mut Vec<u8>, number: I) -> Result<(), NoMemory>
-    ensures { OnOk result (out.new.items ≡ out.old.items ++ I.text number) }
-{
-    let mut buffer = Buffer::new();
-    append(out, buffer.format(number).as_bytes())
-}
-
-fn append_address(alloc: Global, out: &mut Vec<u8>, address: u32) -> Result<(), NoMemory>
-    ensures { OnOk result (out.new.items ≡ out.old.items ++ address_text address) }
-{
-    let text = address_bytes(alloc, address)?;
-    append(out, &text)
-}
 
 fn append_header(alloc: Global, out: &mut Vec<u8>, h: &Header) -> Result<(), NoMemory>
     ensures { OnOk result (out.new.items ≡ out.old.items ++ header_text h.now) }
@@ -174,29 +154,29 @@ fn append_end(
         TraceEnd::Closed => append(out, b"closed\n"),
         TraceEnd::Denied => append_list(out, b"input", &state.input, state.verdict),
         TraceEnd::Broadcast => {
-            append_arrival(alloc, out, state)?;
+            append_arrival(out, state)?;
             append(out, b"broadcast\n")
         }
         TraceEnd::Local { place } => {
-            append_arrival(alloc, out, state)?;
+            append_arrival(out, state)?;
             append(out, b"local ")?;
             append_place(out, names, *place)?;
             append(out, b"\n")
         }
         TraceEnd::Choices { choices } => {
-            append_arrival(alloc, out, state)?;
+            append_arrival(out, state)?;
             append_choices(alloc, out, names, choices.as_slice())
         }
     }
 }
 
 #[tactic(auto, unfolding(crate::specs::TraceText::arrival_text))]
-fn append_arrival(alloc: Global, out: &mut Vec<u8>, state: &TraceState) -> Result<(), NoMemory>
+fn append_arrival(out: &mut Vec<u8>, state: &TraceState) -> Result<(), NoMemory>
     ensures { OnOk result (out.new.items ≡ out.old.items ++ arrival_text state.now) }
 {
     append_list(out, b"input", &state.input, state.verdict)?;
-    append_written(alloc, out, b"nat dst ", b" dport ", state.dst, state.dport)?;
-    append_written(alloc, out, b"nat src ", b"", state.src, None)
+    append_written(out, b"nat dst ", b" dport ", state.dst, state.dport)?;
+    append_written(out, b"nat src ", b"", state.src, None)
 }
 
 fn append_choices(
@@ -237,10 +217,10 @@ fn append_choice(
             append(out, b"out ")?;
             append_name(out, names, place.interface)?;
             append(out, b" next ")?;
-            append_address(alloc, out, *next)?;
+            append_address(out, *next)?;
             append(out, b"\n")?;
-            append_written(alloc, out, b"nat src ", b" sport ", *src, *sport)?;
-            append_written(alloc, out, b"nat dst ", b"", *dst, None)?;
+            append_written(out, b"nat src ", b" sport ", *src, *sport)?;
+            append_written(out, b"nat dst ", b"", *dst, None)?;
             append_list(out, b"output", output, *verdict)?;
             append_fate(alloc, out, names, fate)
         }
@@ -330,7 +310,6 @@ fn append_decided(
 // The line of what a rule wrote, if one matched.
 #[tactic(auto, unfolding(crate::specs::TraceText::written_text))]
 fn append_written(
-    alloc: Global,
     out: &mut Vec<u8>,
     address_word: &[u8],
     port_word: &[u8],
@@ -343,7 +322,7 @@ fn append_written(
         None => Ok(()),
         Some(address) => {
             append(out, address_word)?;
-            append_address(alloc, out, address)?;
+            append_address(out, address)?;
             append_port(out, port_word, port)?;
             append(out, b"\n")
         }

@@ -5,7 +5,7 @@ ghost use Rattle.window_core.specs.RolloutText.{answer_text, failure_text, netwo
 
 use hdr_bits::Header;
 use net_types::NoMemory;
-use report_text::{decimal_bytes, header_bytes};
+use report_text::{append, append_number, header_bytes};
 use rollout::RolloutAnswer;
 use std::alloc::Global;
 
@@ -18,32 +18,17 @@ pub(crate) fn rollout_bytes(
     ensures { IfOk result (λ text. text.items ≡ rollout_text count answer.now) }
 {
     let mut text = Vec::new(alloc);
-    append_networks(alloc, &mut text, count)?;
+    append_networks(&mut text, count)?;
     append_answer(alloc, &mut text, answer)?;
     Ok(text)
 }
 
-fn append(out: &mut Vec<u8>, text: &[u8]) -> Result<(), NoMemory>
-    ensures { OnOk result (out.new.items ≡ out.old.items ++ text.now) }
-{
-    out.extend_from_slice(text)?;
-    Ok(())
-}
-
-fn append_number(alloc: Global, out: &mut Vec<u8>, number: u64) -> Result<(), NoMemory>
-    ensures { OnOk result (out.new.items ≡ out.old.items ++ decimal number) }
-{
-    let digits = decimal_bytes(alloc, number)?;
-    append(out, &digits)?;
-    Ok(())
-}
-
 #[tactic(auto, unfolding(crate::specs::RolloutText::networks_text))]
-fn append_networks(alloc: Global, out: &mut Vec<u8>, count: u64) -> Result<(), NoMemory>
+fn append_networks(out: &mut Vec<u8>, count: u64) -> Result<(), NoMemory>
     ensures { OnOk result (out.new.items ≡ out.old.items ++ networks_text count) }
 {
     append(out, b"networks ")?;
-    append_number(alloc, out, count)?;
+    append_number(out, count)?;
     append(out, b"\n")?;
     Ok(())
 }
@@ -72,9 +57,9 @@ fn append_failure(
     ensures { OnOk result (out.new.items ≡ out.old.items ++ failure_text step question header.now) }
 {
     append(out, b"step ")?;
-    append_number(alloc, out, u64::from(step))?;
+    append_number(out, u64::from(step))?;
     append(out, b" question ")?;
-    append_number(alloc, out, u64::from(question))?;
+    append_number(out, u64::from(question))?;
     append(out, b" fails ")?;
     append(out, &header_bytes(alloc, header)?)?;
     append(out, b"\n")?;
