@@ -1,14 +1,14 @@
 -- How a run ends: what the report and its status say, and what a stop and its status say.
 use Rattle.std.proofs.Common.{◌≡◌, ◌≢◌, ◌⊎◌, inl, inr, ℕ, ◌≤◌, ◌++◌, true, false, cond, List, Option, Some, None, Result, Ok, Err, IfSome, refl, sym, ap, subst, ◌∙◌, arith}
-use Rattle.std.specs.Prelude.{IfOk, option_map}
-use Rattle.net_io.specs.Faults.{Rose, Faultless}
+use Rattle.std.specs.Prelude.{IfErr, IfOk, option_map}
+use Rattle.net_io.specs.Faults.{Rose, Faultless, IsLast}
 use Rattle.net_io.specs.Files.{Told}
 use Rattle.net_io.specs.Sink.{TookPrefix}
 use Rattle.job_core.specs.declared.report.Report.{Report}
 use Rattle.job_core.specs.declared.stop.Stop.{Stop}
 use Rattle.job_core.specs.declared.stop.Stop.TheVariants as stop
 use Rattle.job_core.specs.Accepted.{MayAlwaysStop}
-use Rattle.job_core.specs.Causes.{FaultRose, HasCause}
+use Rattle.job_core.specs.Causes.{FaultRose, HasCause, NamesLast}
 use Rattle.job_core.specs.Endings.{FilesOver, SinkOver, Said, Tells, Wrote, WrotePart, StoppedWith, WritesReport, Finishes, Ends, status_of_report}
 use Rattle.job_core.specs.Lines.{no_memory_text}
 use Rattle.job_core.specs.Stops.{status_of, line_of, cannot_read_line}
@@ -100,6 +100,23 @@ finished_plainly (Ok r) status out err plain w one =
     let zero : status_of_report r ≡ 0 = ap (λ b. cond b 1 0) plain in
     elim w.written [ inl six ↦ absurd (omega (arith, six, one)) | inr v ↦ (let is = v.0 in absurd (omega (arith, is, zero, one))) ]
 finished_plainly (Err s) status out err plain w one = let least = (stop_status w.1.0).0 in let is = w.1.2 in absurd (omega (arith, least, is, one))
+
+-- the line of a path that is the last is the line of the last
+last_line : (last : Option (List ℕ)) (path : List ℕ) (err : SinkOver) → IsLast path last → Said (cannot_read_line path) err → IfSome last (λ p. Said (cannot_read_line p) err)
+last_line None path err is said = tt
+last_line (Some p) path err is said = subst (λ (x : List ℕ). Said (cannot_read_line x) err) (sym is) said
+
+-- at 4 the line names the path of the call that failed last
+pub names_last : (done : Result Report Stop) (status : ℕ) (last : Option (List ℕ)) (out err : SinkOver) → IfErr done (NamesLast last) → Finishes done status out err → status ≡ 4 → IfSome last (λ p. Said (cannot_read_line p) err)
+names_last (Ok r) status last out err named w four =
+    elim w.written [ inl six ↦ absurd (omega (arith, six, four)) | inr v ↦ absurd (either (zero_or_one r status v.0) (λ a. omega (arith, a, four)) (λ a. omega (arith, a, four))) ]
+names_last (Err s) status last out err named w four =
+    let told = w.1 in
+    let read = four_is_read told.0 (sym told.2 ∙ four) in
+    elim told.1 [
+      | inl same ↦ last_line last read.0 err (subst (NamesLast last) (sym same ∙ read.1) named) (subst (λ (x : Stop). Said (line_of x) err) read.1 told.3)
+      | inr none ↦ (let seven : status ≡ 7 = told.2 ∙ ap status_of none in absurd (omega (arith, seven, four)))
+    ]
 
 module _ (Does : Told → Result Report Stop → Type 0) (Accepts : Told → Type 0) (usage : List ℕ) (status : ℕ) (files : FilesOver) (out err : SinkOver) where
   abbrev Is : Type 0

@@ -1,6 +1,6 @@
 -- A count of faults over a step of a job.
-use Rattle.std.specs.Prelude.{ℕ, ◌≤◌, Result, IfErr}
-use Rattle.net_io.specs.Faults.{Rose}
+use Rattle.std.specs.Prelude.{ℕ, ◌≤◌, List, Option, Result, IfErr}
+use Rattle.net_io.specs.Faults.{Rose, IsLast}
 use Rattle.job_core.specs.declared.stop.Stop.{Stop}
 use Rattle.job_core.specs.declared.stop.Stop.TheVariants as stop
 
@@ -13,6 +13,11 @@ FaultRose before now _ = Unit {0}
 pub record HasCause {T : Type 0} (before now : ℕ) (result : Result T Stop) : Type 0 where
   pub later : before ≤ now
   pub fault : IfErr result (FaultRose before now)
+
+-- a file that can't be read is the one of the call that failed last, where that is told
+abbrev pub NamesLast : Option (List ℕ) → Stop → Type 0
+NamesLast last (stop.CannotRead path) = IsLast path last
+NamesLast last _ = Unit {0}
 
 -- a step that reads no file is stopped by none that can't be read
 abbrev pub WasRead : Stop → Type 0

@@ -1,9 +1,9 @@
 //! A file of a job, read whole.
 
-ghost use Rattle.std.specs.Prelude.{◌≡◌, ◌≤◌, IfOk, IfSome, length};
+ghost use Rattle.std.specs.Prelude.{◌≡◌, ◌≤◌, IfErr, IfOk, IfSome, length};
 ghost use Rattle.net_io.specs.Files.{content};
 ghost use Rattle.net_io.specs.Limits.{file_limit};
-ghost use Rattle.job_core.specs.Causes.{HasCause};
+ghost use Rattle.job_core.specs.Causes.{HasCause, NamesLast};
 ghost use Rattle.job_core.specs.Steps.{GivesBytes};
 
 use crate::stop::Stop;
@@ -16,6 +16,7 @@ pub fn read_bytes<F: Files>(alloc: Global, files: &mut F, path: &str) -> Result<
     ensures bytes { IfSome (F.told files.old) (λ t. GivesBytes (λ bytes. bytes.items) path.now (content t path.now) result) }
     ensures limit { IfOk result (λ bytes. length bytes.items ≤ file_limit) }
     ensures cause { HasCause (F.faults files.old) (F.faults files.new) result }
+    ensures last { IfErr result (NamesLast (F.last files.new)) }
     ensures same { F.told files.new ≡ F.told files.old }
 {
     match read_all(alloc, files, path) {

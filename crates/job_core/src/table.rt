@@ -4,7 +4,7 @@ ghost use Rattle.std.specs.Prelude.{◌≡◌, ◌≤◌, IfErr, IfOk, IfSome, l
 ghost use Rattle.net_io.specs.Limits.{file_limit};
 ghost use Rattle.topo_links.specs.NetIndex.{Judges};
 ghost use Rattle.topo_links.specs.Table.{table_names};
-ghost use Rattle.job_core.specs.Causes.{HasCause, WasRead};
+ghost use Rattle.job_core.specs.Causes.{HasCause, NamesLast, WasRead};
 ghost use Rattle.job_core.specs.Steps.{GivesLinks, GivesTable, IsChecked, SaysLinks, fault_in};
 
 use crate::file::read_bytes;
@@ -36,6 +36,7 @@ pub fn read_table<F: Files>(
     ensures names { IfOk result (λ table. length (table_names table) ≤ file_limit) }
     ensures table { IfSome (F.told files.old) (λ t. GivesTable t path.now wires first.now second.now result) }
     ensures cause { HasCause (F.faults files.old) (F.faults files.new) result }
+    ensures last { IfErr result (NamesLast (F.last files.new)) }
     ensures same { F.told files.new ≡ F.told files.old }
 {
     match read_links_file(alloc, files, path) {
@@ -53,6 +54,7 @@ pub fn read_links_file<F: Files>(
     ensures names { IfOk result (λ table. length (table_names table) ≤ file_limit) }
     ensures table { IfSome (F.told files.old) (λ t. GivesLinks t path.now result) }
     ensures cause { HasCause (F.faults files.old) (F.faults files.new) result }
+    ensures last { IfErr result (NamesLast (F.last files.new)) }
     ensures same { F.told files.new ≡ F.told files.old }
 {
     match read_bytes(alloc, files, path) {

@@ -1,9 +1,9 @@
 //! A folder, loaded, or what stops a job where it isn't.
 
-ghost use Rattle.std.specs.Prelude.{◌≡◌, ◌⊎◌, ◌≤◌, IfOk, IfSome, length};
+ghost use Rattle.std.specs.Prelude.{◌≡◌, ◌⊎◌, ◌≤◌, IfErr, IfOk, IfSome, length};
 ghost use Rattle.net_load.specs.Limits.{folder_limit};
 ghost use Rattle.net_load.specs.Numbering.{folder_names};
-ghost use Rattle.job_core.specs.Causes.{HasCause};
+ghost use Rattle.job_core.specs.Causes.{HasCause, NamesLast};
 ghost use Rattle.ios_lines.specs.Kinds.{kind_text};
 ghost use Rattle.job_inputs.specs.Folders.{GivesFolder, FolderStops};
 
@@ -25,6 +25,7 @@ pub fn read_folder<F: Files>(
     ensures devices { IfSome (F.told files.old) (λ t. GivesFolder (λ devices. devices.items) t folder.now result) }
     ensures names { IfOk result (λ devices. length (folder_names devices.items) ≤ folder_limit) }
     ensures cause { HasCause (F.faults files.old) (F.faults files.new) result }
+    ensures last { IfErr result (NamesLast (F.last files.new)) }
     ensures same { F.told files.new ≡ F.told files.old }
 {
     match load_folder(alloc, files, folder) {
@@ -44,6 +45,7 @@ pub fn read_folder_by_workers<F: Files, R: Threads + Sync>(
     ensures devices { IfSome (F.told files.old) (λ t. GivesFolder (λ devices. devices.items) t folder.now result) }
     ensures names { IfOk result (λ devices. length (folder_names devices.items) ≤ folder_limit) }
     ensures cause { HasCause (F.faults files.old) (F.faults files.new) result }
+    ensures last { IfErr result (NamesLast (F.last files.new)) }
     ensures same { F.told files.new ≡ F.told files.old }
 {
     match load_folder_by_workers(rt, workers, alloc, files, folder) {

@@ -1,5 +1,5 @@
 -- Counts of faults.
-use Rattle.std.specs.Prelude.{ℕ, ◌+◌, ◌-◌, ◌^◌, ◌≤◌, min, Result, OnErr, IsErrOf}
+use Rattle.std.specs.Prelude.{◌≡◌, ℕ, ◌+◌, ◌-◌, ◌^◌, ◌≤◌, min, List, Option, Result, OnErr, IsErrOf, IfSome}
 use Rattle.net_io.specs.declared.reading.FileFail.{FileFail}
 use Rattle.net_io.specs.declared.reading.FileFail.TheVariants.{Failed}
 
@@ -24,3 +24,12 @@ pub record HasCause {T : Type 0} (before now : ℕ) (result : Result T FileFail)
 pub record Counts {T E : Type 0} (before now : ℕ) (result : Result T E) : Type 0 where
   pub later : before ≤ now
   pub failed : OnErr result (Rose before now)
+
+-- the path is that of the call that failed last, where that is told
+abbrev pub IsLast : List ℕ → Option (List ℕ) → Type 0
+IsLast path last = IfSome last (λ p. p ≡ path)
+
+-- a call on this path that answers Failed is the last that failed, and every other leaves the last one as it was
+pub record MarksLast {T : Type 0} (path : List ℕ) (before now : Option (List ℕ)) (result : Result T FileFail) : Type 0 where
+  pub failed : IsErrOf result Failed → IsLast path now
+  pub other : (IsErrOf result Failed → ⊥) → now ≡ before

@@ -7,5 +7,6 @@ pub mod ReadFail
 pub mod Sink
 pub mod Store
 pub mod MemFiles
+pub mod RealFiles
 pub mod BoundedSink
 pub mod Written

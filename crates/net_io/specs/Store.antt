@@ -4,18 +4,19 @@ use Rattle.std.specs.Str.{bytes_eq}
 use Rattle.net_io.specs.Faults.{counted}
 use Rattle.net_io.specs.Files.{Told}
 
--- what they hold, the calls of list and read so far, the number of the call that fails, the most bytes that a read gives, and
--- the faults so far
+-- what they hold, the calls of list and read so far, the number of the call that fails, the most bytes that a read gives, the
+-- faults so far, and the path of the call that failed last
 pub record Store : Type 0 where
   pub told : Told
   pub calls : ℕ
   pub fails_at : Option ℕ
   pub most : Option ℕ
   pub faults : ℕ
+  pub last : Option (List ℕ)
 
 -- no files and no folders
 abbrev pub empty_store : Store
-empty_store = record { told = record { files = []; folders = [] }; calls = 0; fails_at = None; most = None; faults = 0 }
+empty_store = record { told = record { files = []; folders = [] }; calls = 0; fails_at = None; most = None; faults = 0; last = None }
 
 -- these bytes at this path, in place of those that are there
 abbrev pub with_file : List ℕ → List ℕ → List (List ℕ × List ℕ) → List (List ℕ × List ℕ)

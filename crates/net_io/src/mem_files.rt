@@ -1,10 +1,11 @@
 //! Files and folders in memory, which tell all that they hold. One call may be made to fail, and reads to give few bytes.
 
-ghost use Rattle.std.specs.Prelude.{◌≡◌, ◌↔◌, ◌<◌, ◌≤◌, ◌==◌, Some};
+ghost use Rattle.std.specs.Prelude.{◌≡◌, ◌↔◌, ◌<◌, ◌≤◌, ◌==◌, false, Some};
 ghost use Rattle.std.specs.Prelude.{IfOk, OnOk, OnErr, IsOk, IsErrOf, IsTrue, IsSome, IfSome, length, map, find, filter_map, option_map, string_bytes};
 ghost use Rattle.std.specs.List.{list_any};
 ghost use Rattle.std.specs.Option.{option_copied};
 ghost use Rattle.std.specs.Str.{bytes_eq};
+ghost use Rattle.net_io.specs.Faults.{IsLast, MarksLast};
 ghost use Rattle.net_io.specs.Files.{content, has_folder, IsListing, IsPiece, IsAbsentUnless, slash};
 ghost use Rattle.net_io.specs.Names.{after_folder, after_slash, plain_name, name_in};
 ghost use Rattle.net_io.specs.Store.{empty_store, with_file, with_folder, is_due, called};
@@ -36,10 +37,12 @@ pub struct MemFiles {
     fails_at: Option<u64>,
     most: Option<usize>,
     faults: u64,
+    // The path of the call that failed last, where there was memory for it.
+    last: Option<String>,
 }
 
 impl Model for MemFiles {
-    ghost use Rattle.std.specs.Prelude.{◌≤◌, IfSome, map, string_bytes};
+    ghost use Rattle.std.specs.Prelude.{◌≤◌, IfSome, map, option_map, string_bytes};
     ghost use Rattle.std.specs.List.{IsDistinct};
     ghost use Rattle.std.specs.Str.{bytes_eq};
     ghost use Rattle.net_io.specs.Store.{Store};
@@ -54,6 +57,7 @@ impl Model for MemFiles {
       fails_at = m.fails_at;
       most = m.most;
       faults = m.faults;
+      last = option_map string_bytes m.last;
     } };
 
     // No path is there twice, and a read gives at least one byte.
@@ -74,6 +78,7 @@ impl MemFiles {
             fails_at: None,
             most: None,
             faults: 0,
+            last: None,
         })
     }
 
@@ -113,16 +118,19 @@ impl MemFiles {
         self.most = Some(bytes);
     }
 
-    // Counts a call of `list` or `read`, and says whether it is the one that fails.
-    fn begin_call(&mut self) -> bool
-        ensures counted { self.new ≡ called self.old }
+    // Counts a call of `list` or `read` on this path, and says whether it is the one that fails.
+    fn begin_call(&mut self, path: &str) -> bool
+        ensures counted { self.new ≡ record (called self.old) { last = self.new.last } }
         ensures later { self.old.faults ≤ self.new.faults }
         ensures due { result ≡ is_due self.old.fails_at self.old.calls }
+        ensures last { IsTrue result → IsLast path.now self.new.last }
+        ensures other { result ≡ false → self.new.last ≡ self.old.last }
     {
         let is_due = is_due(self.fails_at, self.calls);
         self.calls = self.calls.saturating_add(1);
         if is_due {
             self.faults = self.faults.saturating_add(1);
+            self.last = path.to_string(self.alloc).ok();
         }
         is_due
     }
@@ -133,14 +141,17 @@ impl Files for MemFiles {
 
     ghost faults = { λ s. s.faults };
 
+    ghost last = { λ s. s.last };
+
     fn list(&mut self, alloc: Global, path: &str) -> Result<Vec<String>, FileFail>
-        ensures counted { self.new ≡ called self.old }
+        ensures counted { self.new ≡ record (called self.old) { last = self.new.last } }
         ensures later { self.old.faults ≤ self.new.faults }
         ensures names { IfOk result (λ names. IsListing self.old.told path.now (map string_bytes names.items)) }
         ensures absent { IsAbsentUnless (IsTrue (has_folder self.old.told path.now)) result }
         ensures failed { IsErrOf result file.Failed ↔ IsTrue (is_due self.old.fails_at self.old.calls) }
+        ensures last { MarksLast path.now self.old.last self.new.last result }
     {
-        if self.begin_call() {
+        if self.begin_call(path) {
             return Err(FileFail::Failed);
         }
         if !has_folder(&self.folders, path) {
@@ -150,16 +161,17 @@ impl Files for MemFiles {
     }
 
     fn read(&mut self, path: &str, at: u64, room: &mut [u8]) -> Result<usize, FileFail>
-        ensures counted { self.new ≡ called self.old }
+        ensures counted { self.new ≡ record (called self.old) { last = self.new.last } }
         ensures later { self.old.faults ≤ self.new.faults }
         ensures bound { IfOk result (λ n. n ≤ at_most self.old.most (length room.old)) }
         ensures piece { IfOk result (λ n. IfSome (content self.old.told path.now) (λ bytes. IsPiece bytes at room.new n)) }
         ensures more { IfOk result (λ n. IfSome (content self.old.told path.now) (λ bytes. at < length bytes → 0 < length room.old → 0 < n)) }
         ensures absent { IsAbsentUnless (IsSome (content self.old.told path.now)) result }
         ensures failed { IsErrOf result file.Failed ↔ IsTrue (is_due self.old.fails_at self.old.calls) }
+        ensures last { MarksLast path.now self.old.last self.new.last result }
         ensures memory { IsErrOf result file.NoMemory → ⊥ }
     {
-        if self.begin_call() {
+        if self.begin_call(path) {
             return Err(FileFail::Failed);
         }
         let Some(bytes) = bytes_at(&self.files, path) else {

@@ -1,8 +1,8 @@
 //! What it is to be files that are read: the trait, with the causes of failure, and the reading of a whole file.
 
-ghost use Rattle.std.specs.Prelude.{◌≡◌, ℕ, ◌<◌, ◌≤◌, Option, Some, Err};
+ghost use Rattle.std.specs.Prelude.{◌≡◌, ℕ, ◌<◌, ◌≤◌, List, Option, Some, Err};
 ghost use Rattle.std.specs.Prelude.{IfOk, IfSome, IsSome, IsNone, IsSomeAnd, IsTrue, length, map, string_bytes};
-ghost use Rattle.net_io.specs.Faults.{Rose, HasCause};
+ghost use Rattle.net_io.specs.Faults.{Rose, HasCause, IsLast, MarksLast};
 ghost use Rattle.net_io.specs.Limits.{file_limit};
 ghost use Rattle.net_io.specs.Files.{Told, content, has_folder, IsListing, IsPiece, IsAbsentUnless};
 
@@ -32,13 +32,17 @@ impl From<AllocError> for FileFail {
 /// Folders and files to read.
 ///
 /// A path is text. The file NAME of the folder PATH is at the path `PATH/NAME`. What stands at the paths
-/// is told or not, and no call changes it. A count of faults never falls.
+/// is told or not, and no call changes it. A count of faults never falls, and the path of the last fault is that of
+/// the last call that answered `Failed`.
 pub trait Files {
     /// What the files hold, where it is told.
     ghost told: { Self → Option Told };
 
     /// How often a call has failed.
     ghost faults: { Self → ℕ };
+
+    /// The path of the call that failed last, where it is told.
+    ghost last: { Self → Option (List ℕ) };
 
     /// The names in a folder: each once, in any order, those without '/' that have a file at `PATH/NAME`.
     ///
@@ -48,7 +52,8 @@ pub trait Files {
         ensures same { told self.new ≡ told self.old }
         ensures names { IfOk result (λ names. IfSome (told self.old) (λ t. IsListing t path.now (map string_bytes names.items))) }
         ensures absent { IfSome (told self.old) (λ t. IsAbsentUnless (IsTrue (has_folder t path.now)) result) }
-        ensures cause { HasCause (faults self.old) (faults self.new) result };
+        ensures cause { HasCause (faults self.old) (faults self.new) result }
+        ensures last { MarksLast path.now (last self.old) (last self.new) result };
 
     /// Puts bytes of a file, those from the place `at` on (from 0), into the room, and answers how many.
     ///
@@ -61,7 +66,8 @@ pub trait Files {
         ensures piece { IfOk result (λ n. IfSome (told self.old) (λ t. IfSome (content t path.now) (λ bytes. IsPiece bytes at room.new n))) }
         ensures more { IfOk result (λ n. IfSome (told self.old) (λ t. IfSome (content t path.now) (λ bytes. at < length bytes → 0 < length room.old → 0 < n))) }
         ensures absent { IfSome (told self.old) (λ t. IsAbsentUnless (IsSome (content t path.now)) result) }
-        ensures cause { HasCause (faults self.old) (faults self.new) result };
+        ensures cause { HasCause (faults self.old) (faults self.new) result }
+        ensures last { MarksLast path.now (last self.old) (last self.new) result };
 }
 
 /// Why a whole file wasn't read.
@@ -118,6 +124,7 @@ pub fn read_all<F: Files>(alloc: Global, files: &mut F, path: &str) -> Result<Ve
     ensures too_long { result ≡ Err ReadFail.TooLong → IfSome (F.told files.old) (λ t. IsSomeAnd (content t path.now) (λ bytes. file_limit < length bytes)) }
     ensures absent { result ≡ Err ReadFail.Absent → IfSome (F.told files.old) (λ t. IsNone (content t path.now)) }
     ensures failed { result ≡ Err ReadFail.Failed → Rose (F.faults files.old) (F.faults files.new) }
+    ensures last { result ≡ Err ReadFail.Failed → IsLast path.now (F.last files.new) }
 
     ensures same { F.told files.new ≡ F.told files.old }
     ensures later { F.faults files.old ≤ F.faults files.new }

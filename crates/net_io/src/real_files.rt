@@ -1,7 +1,9 @@
 //! The files of the system, as files that tell nothing. The file that was read last stays open for its next piece.
 
 ghost use Rattle.std.specs.Prelude.{◌≡◌, ◌≤◌, IfOk, None, length};
-ghost use Rattle.net_io.specs.Faults.{Rose};
+ghost use Rattle.std.specs.IoError.{error_kind};
+ghost use Rattle.net_io.specs.Faults.{Rose, IsLast};
+ghost use Rattle.net_io.specs.RealFiles.{fail_of};
 ghost use Rattle.net_io.specs.declared.reading.FileFail.TheVariants as file;
 
 use crate::{FileFail, Files};
@@ -19,15 +21,18 @@ pub struct RealFiles<R: rt::Files> {
     rt: R,
     open: Option<OpenFile<R::File>>,
     faults: u64,
+    // The path of the call that failed last, where there was memory for it.
+    last: Option<String>,
 }
 
-// A contract sees them as their count of faults.
+// A contract sees them as their faults.
 impl<R: rt::Files> Model for RealFiles<R> {
-    ghost use Rattle.std.specs.Prelude.{ℕ};
+    ghost use Rattle.std.specs.Prelude.{option_map, string_bytes};
+    ghost use Rattle.net_io.specs.RealFiles.{FaultsSoFar};
 
-    ghost Value = { ℕ };
+    ghost Value = { FaultsSoFar };
 
-    ghost view = { λ f. f.faults };
+    ghost view = { λ f. record { count = f.faults; last = option_map string_bytes f.last } };
 }
 
 // The file that was read last, and the place that a read of it comes to.
@@ -41,12 +46,13 @@ struct OpenFile<F> {
 impl<R: rt::Files + AllocGlobal + Clone + Drop> RealFiles<R> {
     /// The files that this runtime reaches, with no fault so far.
     pub fn new(rt: R) -> RealFiles<R>
-        ensures { result ≡ 0 }
+        ensures { result ≡ record { count = 0; last = None } }
     {
         RealFiles {
             rt,
             open: None,
             faults: 0,
+            last: None,
         }
     }
 
@@ -93,16 +99,19 @@ impl<R: rt::Files + AllocGlobal + Clone + Drop> RealFiles<R> {
         })
     }
 
-    // Counts a fault, where the error is one.
-    fn cause(&mut self, error: &io::Error) -> FileFail
-        ensures later { self.old ≤ self.new }
-        ensures failed { result ≡ file.Failed → Rose self.old self.new }
+    // The cause that an error of a call on this path is; a fault is counted.
+    fn cause(&mut self, path: &str, error: &io::Error) -> FileFail
+        ensures kind { result ≡ fail_of (error_kind error.now) }
+        ensures later { self.old.count ≤ self.new.count }
+        ensures failed { result ≡ file.Failed → Rose self.old.count self.new.count × IsLast path.now self.new.last }
+        ensures other { (result ≡ file.Failed → ⊥) → self.new ≡ self.old }
     {
         match error.kind() {
             ErrorKind::NotFound => FileFail::Absent,
             ErrorKind::OutOfMemory => FileFail::NoMemory,
             _ => {
                 self.faults = self.faults.saturating_add(1);
+                self.last = path.to_string(self.rt.alloc()).ok();
                 FileFail::Failed
             }
         }
@@ -112,19 +121,21 @@ impl<R: rt::Files + AllocGlobal + Clone + Drop> RealFiles<R> {
 impl<R: rt::Files + AllocGlobal + Clone + Drop> Files for RealFiles<R> {
     ghost told = { λ _. None };
 
-    ghost faults = { λ faults. faults };
+    ghost faults = { λ f. f.count };
+
+    ghost last = { λ f. f.last };
 
     fn list(&mut self, alloc: Global, path: &str) -> Result<Vec<String>, FileFail> {
         match self.names(alloc, path) {
             Ok(names) => Ok(names),
-            Err(error) => Err(self.cause(&error)),
+            Err(error) => Err(self.cause(path, &error)),
         }
     }
 
     fn read(&mut self, path: &str, at: u64, room: &mut [u8]) -> Result<usize, FileFail> {
         match self.piece(path, at, room) {
             Ok(count) => Ok(count),
-            Err(error) => Err(self.cause(&error)),
+            Err(error) => Err(self.cause(path, &error)),
         }
     }
 }

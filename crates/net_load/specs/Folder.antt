@@ -5,7 +5,7 @@ use Rattle.std.specs.List.Sorted.{IsStrictlySortedBy}
 use Rattle.std.specs.Str.{bytes_eq}
 use Rattle.net_types.specs.declared.config.Loaded.{Loaded}
 use Rattle.net_io.specs.Limits.{file_limit}
-use Rattle.net_io.specs.Faults.{Rose}
+use Rattle.net_io.specs.Faults.{Rose, IsLast}
 use Rattle.net_io.specs.Files.{Told, content, has_folder, path_in, IsNameIn}
 use Rattle.ios_config.specs.Reads.{Reads, Refused}
 use Rattle.topo_links.specs.Ends.{Word}
@@ -146,3 +146,8 @@ FaultRose _ before now = Unit {0}
 pub record HasCause {T : Type 0} (before now : ℕ) (result : Result T LoadFail) : Type 0 where
   pub later : before ≤ now
   pub fault : IfErr result (λ e. FaultRose e before now)
+
+-- the path of a fault is that of the call that failed last, where that is told
+abbrev pub NamesLast : LoadFail → Option Word → Type 0
+NamesLast (fail.Fault p) last = IsLast p last
+NamesLast _ last = Unit {0}

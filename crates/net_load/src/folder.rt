@@ -1,10 +1,10 @@
 //! Loading a folder of configurations.
-ghost use Rattle.std.specs.Prelude.{◌≡◌, ◌≢◌, ◌≤◌, ℕ, List, All, IfErr, IfOk, IfSome, filter, length, map, string_bytes};
+ghost use Rattle.std.specs.Prelude.{◌≡◌, ◌≢◌, ◌≤◌, ℕ, List, Option, All, IfErr, IfOk, IfSome, filter, length, map, string_bytes};
 ghost use Rattle.net_io.specs.Files.{Told};
 ghost use Rattle.topo_links.specs.Ends.{Word};
 ghost use Rattle.net_load.specs.Limits.{files_limit, folder_limit};
 ghost use Rattle.net_load.specs.Numbering.{folder_names};
-ghost use Rattle.net_load.specs.Folder.{is_config_name, Loads, LoadsNames, Lists, FaultRose, HasCause};
+ghost use Rattle.net_load.specs.Folder.{is_config_name, Loads, LoadsNames, Lists, FaultRose, HasCause, NamesLast};
 ghost use Rattle.net_load.specs.Texts.{AreReadings, AreTexts, GivesTexts, IsText};
 ghost use Rattle.net_load.specs.Loader.{list_fail_of};
 ghost use Rattle.topo_links.specs.Names.{sorted_names};
@@ -130,6 +130,7 @@ pub fn list_configs<F: Files>(
     ensures lists { IfSome (F.told files.old) (λ t. Lists (λ names. map string_bytes names.items) t folder.now result) }
     ensures same { F.told files.new ≡ F.told files.old }
     ensures cause { HasCause (F.faults files.old) (F.faults files.new) result }
+    ensures last { IfErr result (λ e. NamesLast e (F.last files.new)) }
 {
     match files.list(alloc, folder) {
         Ok(names) => Ok(config_names(alloc, names)?),
@@ -141,7 +142,7 @@ pub fn list_configs<F: Files>(
 ///
 /// They are read and checked one after the other, and the first cause decides. Each answer is exact, but that a fault or
 /// want of memory may come in its place. `Fault` comes only where the count of faults rose, and its path is that of the
-/// folder, or of a file before which all are loaded.
+/// call that failed last: that of the folder, or of a file before which all are loaded.
 pub fn load_folder<F: Files>(
     alloc: Global,
     files: &mut F,
@@ -155,6 +156,7 @@ pub fn load_folder<F: Files>(
 
     ensures same { F.told files.new ≡ F.told files.old }
     ensures cause { HasCause (F.faults files.old) (F.faults files.new) result }
+    ensures last { IfErr result (λ e. NamesLast e (F.last files.new)) }
 {
     let texts = folder_texts(alloc, files, folder)?;
     load_all(alloc, folder, texts, Vec::new(alloc))
@@ -174,6 +176,7 @@ pub fn load_folder_by_workers<F: Files, R: Threads + Sync>(
     ensures names { IfOk result (λ loaded. length (folder_names loaded.items) ≤ folder_limit) }
     ensures same { F.told files.new ≡ F.told files.old }
     ensures cause { HasCause (F.faults files.old) (F.faults files.new) result }
+    ensures last { IfErr result (λ e. NamesLast e (F.last files.new)) }
 {
     let texts = folder_texts(alloc, files, folder)?;
     let known = read_by_workers(rt, alloc, workers, &texts.read)?;
@@ -187,7 +190,9 @@ fn folder_texts<F: Files>(alloc: Global, files: &mut F, folder: &str) -> Result<
     ensures same { F.told files.new ≡ F.told files.old }
     ensures later { F.faults files.old ≤ F.faults files.new }
     ensures cause { HasCause (F.faults files.old) (F.faults files.new) result }
+    ensures last { IfErr result (λ e. NamesLast e (F.last files.new)) }
     ensures stopped { IfOk result (λ x. IfSome x.stopped (λ e. FaultRose e (F.faults files.old) (F.faults files.new))) }
+    ensures stopped_last { IfOk result (λ x. IfSome x.stopped (λ e. NamesLast e (F.last files.new))) }
 {
     let names = list_configs(alloc, files, folder)?;
     if names.len() > FILES_LIMIT {
@@ -211,6 +216,7 @@ fn load_all(
     ensures count { IfOk result (λ loaded. length loaded.items ≡ length texts.read.items) }
     ensures names { IfOk result (λ loaded. length (folder_names loaded.items) ≤ folder_limit) }
     ensures fault { (before now : ℕ) → IfSome texts.stopped (λ e. FaultRose e before now) → IfErr result (λ e. FaultRose e before now) }
+    ensures last { (last : Option (List ℕ)) → IfSome texts.stopped (λ e. NamesLast e last) → IfErr result (λ e. NamesLast e last) }
 {
     let Texts { read, stopped } = texts;
     let loaded = load_texts(alloc, folder, &read, known)?;

@@ -1,8 +1,8 @@
 //! The texts of a folder's files, read one after the other.
-ghost use Rattle.std.specs.Prelude.{◌≡◌, ◌≢◌, ◌≤◌, All, IfOk, IfSome, length, map, string_bytes};
+ghost use Rattle.std.specs.Prelude.{◌≡◌, ◌≢◌, ◌≤◌, All, IfErr, IfOk, IfSome, length, map, string_bytes};
 ghost use Rattle.net_io.specs.Files.{path_in};
 ghost use Rattle.net_io.specs.Limits.{file_limit};
-ghost use Rattle.net_load.specs.Folder.{FaultRose, HasCause};
+ghost use Rattle.net_load.specs.Folder.{FaultRose, HasCause, NamesLast};
 ghost use Rattle.net_load.specs.Loader.{ReadsFile, load_fail_of};
 ghost use Rattle.net_load.specs.Texts.{AreTexts, IsText, GivesText};
 
@@ -68,6 +68,7 @@ fn read_file<F: Files>(alloc: Global, files: &mut F, path: &str) -> Result<Vec<u
     ensures limit { IfOk result (λ bytes. length bytes.items ≤ file_limit) }
     ensures same { F.told files.new ≡ F.told files.old }
     ensures cause { HasCause (F.faults files.old) (F.faults files.new) result }
+    ensures last { IfErr result (λ e. NamesLast e (F.last files.new)) }
 {
     match read_all(alloc, files, path) {
         Ok(bytes) => Ok(bytes),
@@ -86,6 +87,7 @@ fn text_of<F: Files>(
     ensures is { IfOk result (λ x. IsText folder.now x × (x.file ≡ name.now)) }
     ensures same { F.told files.new ≡ F.told files.old }
     ensures cause { HasCause (F.faults files.old) (F.faults files.new) result }
+    ensures last { IfErr result (λ e. NamesLast e (F.last files.new)) }
 {
     let path = path_of(alloc, folder, name)?;
     let bytes = read_file(alloc, files, path.as_str())?;
@@ -110,6 +112,7 @@ pub(crate) fn read_texts<F: Files>(
     ensures same { F.told files.new ≡ F.told files.old }
     ensures later { F.faults files.old ≤ F.faults files.new }
     ensures cause { IfOk result (λ x. IfSome x.stopped (λ e. FaultRose e (F.faults files.old) (F.faults files.new))) }
+    ensures last { IfOk result (λ x. IfSome x.stopped (λ e. NamesLast e (F.last files.new))) }
 {
     let mut read = Vec::new(alloc);
     let mut total = 0;

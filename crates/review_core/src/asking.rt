@@ -6,7 +6,7 @@ ghost use Rattle.net_load.specs.Limits.{folder_limit};
 ghost use Rattle.net_load.specs.Numbering.{folder_names};
 ghost use Rattle.topo_links.specs.Table.{table_names};
 ghost use Rattle.review_args.specs.Requests.{IsTtl};
-ghost use Rattle.job_core.specs.Causes.{HasCause, WasRead};
+ghost use Rattle.job_core.specs.Causes.{HasCause, NamesLast, WasRead};
 ghost use Rattle.job_core.specs.Steps.{OrNoMemory};
 ghost use Rattle.review_core.specs.Job.{Asks, AsksOn, AsksOver, AsksWith, IsAnswering, asked_network};
 
@@ -33,6 +33,7 @@ pub(crate) fn ask_in_folder<F: Files, R: Threads + Wait + Sync, G: Gate + Sync>(
     requires { IsTtl asked.now.ttl }
     ensures job { IfSome (F.told files.old) (λ t. Asks t asked.now result) }
     ensures cause { HasCause (F.faults files.old) (F.faults files.new) result }
+    ensures last { IfErr result (NamesLast (F.last files.new)) }
 {
     match read_folder_by_workers(by.rt, by.count as usize, alloc, files, asked.net.as_str()) {
         Ok(devices) => ask_over(by, alloc, files, devices, asked),
@@ -52,6 +53,7 @@ fn ask_over<F: Files, R: Threads + Wait + Sync, G: Gate + Sync>(
     requires ttl { IsTtl asked.now.ttl }
     ensures job { IfSome (F.told files.old) (λ t. AsksOver t devices.items asked.now result) }
     ensures cause { HasCause (F.faults files.old) (F.faults files.new) result }
+    ensures last { IfErr result (NamesLast (F.last files.new)) }
 {
     let links = asked.links.as_str();
     match read_table(alloc, files, links, Wires::Both, &devices, &devices) {
@@ -74,6 +76,7 @@ fn ask_with<F: Files, R: Threads + Wait + Sync, G: Gate + Sync>(
     requires ttl { IsTtl asked.now.ttl }
     ensures job { IfSome (F.told files.old) (λ t. AsksWith t devices.items table.now asked.now result) }
     ensures cause { HasCause (F.faults files.old) (F.faults files.new) result }
+    ensures last { IfErr result (NamesLast (F.last files.new)) }
 {
     match read_bytes(alloc, files, asked.questions.as_str()) {
         Ok(bytes) => ask_numbered(by, alloc, devices, table, &bytes, asked),

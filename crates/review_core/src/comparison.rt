@@ -1,12 +1,12 @@
 //! `compare OLD NEW LINKS [NEWLINKS]`: the report on two folders.
 
-ghost use Rattle.std.specs.Prelude.{◌≡◌, ◌≤◌, ◌<◌, ◌^◌, [], IfOk, IfSome, length};
+ghost use Rattle.std.specs.Prelude.{◌≡◌, ◌≤◌, ◌<◌, ◌^◌, [], IfErr, IfOk, IfSome, length};
 ghost use Rattle.net_load.specs.Limits.{folder_limit};
 ghost use Rattle.net_load.specs.Numbering.{count_names, extra_names, folder_names, numbered_both};
 ghost use Rattle.net_types.specs.Report.{IsReport};
 ghost use Rattle.net_compare.specs.Networks.{world};
 ghost use Rattle.review_args.specs.Requests.{IsTtl};
-ghost use Rattle.job_core.specs.Causes.{HasCause};
+ghost use Rattle.job_core.specs.Causes.{HasCause, NamesLast};
 ghost use Rattle.job_core.specs.Steps.{OrNoMemory};
 ghost use Rattle.review_core.specs.Job.{AreFew, Compares, ComparesWith, ComparesOver, IsComparison, new_table};
 
@@ -37,6 +37,7 @@ pub(crate) fn compare_folders<F: Files, R: Threads + Wait + Sync, G: Gate + Sync
     requires { IsTtl asked.now.ttl }
     ensures job { IfSome (F.told files.old) (λ t. Compares t asked.now result) }
     ensures cause { HasCause (F.faults files.old) (F.faults files.new) result }
+    ensures last { IfErr result (NamesLast (F.last files.new)) }
 {
     match read_folder_by_workers(by.rt, by.count as usize, alloc, files, asked.old.as_str()) {
         Ok(old) => compare_with(by, alloc, files, old, asked),
@@ -56,6 +57,7 @@ fn compare_with<F: Files, R: Threads + Wait + Sync, G: Gate + Sync>(
     requires ttl { IsTtl asked.now.ttl }
     ensures job { IfSome (F.told files.old) (λ t. ComparesWith t old.items asked.now result) }
     ensures cause { HasCause (F.faults files.old) (F.faults files.new) result }
+    ensures last { IfErr result (NamesLast (F.last files.new)) }
 {
     match read_folder_by_workers(by.rt, by.count as usize, alloc, files, asked.new.as_str()) {
         Ok(new) => compare_over(by, alloc, files, old, new, asked),
@@ -77,6 +79,7 @@ fn compare_over<F: Files, R: Threads + Wait + Sync, G: Gate + Sync>(
     requires ttl { IsTtl asked.now.ttl }
     ensures job { IfSome (F.told files.old) (λ t. ComparesOver t old.items new.items asked.now result) }
     ensures cause { HasCause (F.faults files.old) (F.faults files.new) result }
+    ensures last { IfErr result (NamesLast (F.last files.new)) }
 {
     match read_tables(alloc, files, &old, &new, asked) {
         Ok(tables) => report_over(by, alloc, old, new, &tables, asked.ttl),

@@ -1,7 +1,7 @@
 //! `read NET`: a line for each configuration.
 
-ghost use Rattle.std.specs.Prelude.{◌≡◌, IfOk, IfSome};
-ghost use Rattle.job_core.specs.Causes.{HasCause};
+ghost use Rattle.std.specs.Prelude.{◌≡◌, IfErr, IfOk, IfSome};
+ghost use Rattle.job_core.specs.Causes.{HasCause, NamesLast};
 ghost use Rattle.job_core.specs.Steps.{OrNoMemory};
 ghost use Rattle.review_core.specs.Job.{Reads, IsReading};
 
@@ -20,6 +20,7 @@ pub(crate) fn read_network<F: Files>(
 ) -> Result<Report, Stop>
     ensures job { IfSome (F.told files.old) (λ t. Reads t net.now result) }
     ensures cause { HasCause (F.faults files.old) (F.faults files.new) result }
+    ensures last { IfErr result (NamesLast (F.last files.new)) }
 {
     match read_folder(alloc, files, net) {
         Ok(devices) => readings(alloc, &devices),

@@ -1,9 +1,9 @@
 //! The link tables of two networks.
 
-ghost use Rattle.std.specs.Prelude.{◌≡◌, ◌≤◌, Some, None, IfOk, IfSome, length};
+ghost use Rattle.std.specs.Prelude.{◌≡◌, ◌≤◌, Some, None, IfErr, IfOk, IfSome, length};
 ghost use Rattle.net_io.specs.Limits.{file_limit};
 ghost use Rattle.topo_links.specs.Table.{table_names};
-ghost use Rattle.job_core.specs.Causes.{HasCause};
+ghost use Rattle.job_core.specs.Causes.{HasCause, NamesLast};
 ghost use Rattle.review_core.specs.Job.{AreFew, GivesNewTable, GivesTables, new_table};
 
 use job_core::{Stop, Wires, read_table};
@@ -45,6 +45,7 @@ pub(crate) fn read_tables<F: Files>(
     ensures tables { IfSome (F.told files.old) (λ t. GivesTables t old.now new.now asked.now.links asked.now.new_links result) }
     ensures few { IfOk result AreFew }
     ensures cause { HasCause (F.faults files.old) (F.faults files.new) result }
+    ensures last { IfErr result (NamesLast (F.last files.new)) }
     ensures same { F.told files.new ≡ F.told files.old }
 {
     match &asked.new_links {
@@ -71,6 +72,7 @@ fn shared_table<F: Files>(
     ensures tables { IfSome (F.told files.old) (λ t. GivesTables t old.now new.now links.now None result) }
     ensures few { IfOk result AreFew }
     ensures cause { HasCause (F.faults files.old) (F.faults files.new) result }
+    ensures last { IfErr result (NamesLast (F.last files.new)) }
     ensures same { F.told files.new ≡ F.told files.old }
 {
     match read_table(alloc, files, links, Wires::Both, old, new) {
@@ -94,6 +96,7 @@ fn own_tables<F: Files>(
     ensures tables { IfSome (F.told files.old) (λ t. GivesTables t old.now new.now links.now (Some new_links.now) result) }
     ensures few { IfOk result AreFew }
     ensures cause { HasCause (F.faults files.old) (F.faults files.new) result }
+    ensures last { IfErr result (NamesLast (F.last files.new)) }
     ensures same { F.told files.new ≡ F.told files.old }
 {
     match read_table(alloc, files, links, Wires::First, old, new) {
@@ -115,6 +118,7 @@ fn with_new_table<F: Files>(
     ensures tables { IfSome (F.told files.old) (λ t. GivesNewTable t old.now new.now table new_links.now result) }
     ensures few { IfOk result AreFew }
     ensures cause { HasCause (F.faults files.old) (F.faults files.new) result }
+    ensures last { IfErr result (NamesLast (F.last files.new)) }
     ensures same { F.told files.new ≡ F.told files.old }
 {
     match read_table(alloc, files, new_links, Wires::First, new, old) {

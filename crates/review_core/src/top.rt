@@ -1,8 +1,9 @@
 //! The program as one call.
 
-ghost use Rattle.std.specs.Prelude.{◌≡◌, ◌⊎◌, None, Some, IfSome, map, string_bytes};
-ghost use Rattle.job_core.specs.Causes.{HasCause};
-ghost use Rattle.job_core.specs.Endings.{Ends};
+ghost use Rattle.std.specs.Prelude.{◌≡◌, ◌⊎◌, None, Some, IfErr, IfSome, map, string_bytes};
+ghost use Rattle.job_core.specs.Causes.{HasCause, NamesLast};
+ghost use Rattle.job_core.specs.Endings.{Ends, Said};
+ghost use Rattle.job_core.specs.Stops.{cannot_read_line};
 ghost use Rattle.review_args.specs.Requests.{IsJob, request_of};
 ghost use Rattle.review_core.specs.Lines.{usage_text};
 ghost use Rattle.review_core.specs.Accepted.{IsAccepted};
@@ -46,6 +47,10 @@ pub fn run<F: Files, O: Sink, E: Sink, G: Gate + Sync, R: Threads + Wait + Sync>
     ensures usage { result ≡ 2 → request_of (map string_bytes words.now) ≡ None }
     ensures refused { request_of (map string_bytes words.now) ≡ None → (result ≡ 2) ⊎ (result ≡ 7) }
 
+    // The path in `cannot read PATH` is that of the call on the files that failed last, where that is told.
+    ensures cannot_read { result ≡ 4 → IfSome (F.last files.new) (λ path. Said (cannot_read_line path)
+        (record { before = E.taken err.old; now = E.taken err.new; faults_before = E.faults err.old; faults_now = E.faults err.new })) }
+
     // The run ends as one of the job that the words ask for.
     ensures ends { Ends (Does (map string_bytes words.now)) (IsAccepted (map string_bytes words.now)) usage_text result
         (record { told = F.told files.old; faults_before = F.faults files.old; faults_now = F.faults files.new })
@@ -76,6 +81,7 @@ fn perform<F: Files, R: Threads + Wait + Sync, G: Gate + Sync>(
     requires { IsJob job.now }
     ensures job { IfSome (F.told files.old) (λ t. Performs (Some job.now) t result) }
     ensures cause { HasCause (F.faults files.old) (F.faults files.new) result }
+    ensures last { IfErr result (NamesLast (F.last files.new)) }
 {
     match job {
         Job::Compare(asked) => compare_folders(by, alloc, files, asked),

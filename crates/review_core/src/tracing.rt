@@ -1,13 +1,13 @@
 //! `trace NET LINKS DEVICE INTERFACE HEADER`: the trace of a packet.
 
-ghost use Rattle.std.specs.Prelude.{◌≡◌, ◌≤◌, ◌<◌, ◌^◌, ◌∷◌, [], IfOk, IfSome, length, position};
+ghost use Rattle.std.specs.Prelude.{◌≡◌, ◌≤◌, ◌<◌, ◌^◌, ◌∷◌, [], IfErr, IfOk, IfSome, length, position};
 ghost use Rattle.std.specs.Str.{bytes_eq};
 ghost use Rattle.net_io.specs.Limits.{file_limit};
 ghost use Rattle.net_load.specs.Limits.{folder_limit};
 ghost use Rattle.net_load.specs.Numbering.{count_names, folder_names, number_of};
 ghost use Rattle.topo_links.specs.Table.{table_names};
 ghost use Rattle.review_args.specs.Requests.{IsTtl};
-ghost use Rattle.job_core.specs.Causes.{HasCause};
+ghost use Rattle.job_core.specs.Causes.{HasCause, NamesLast};
 ghost use Rattle.job_core.specs.Steps.{OrNoMemory};
 ghost use Rattle.review_core.specs.Job.{IsTrace, IsTraceOn, Traces, TracesOver, entry};
 
@@ -30,6 +30,7 @@ pub(crate) fn trace_in_folder<F: Files>(
     requires { IsTtl asked.now.ttl }
     ensures job { IfSome (F.told files.old) (λ t. Traces t asked.now result) }
     ensures cause { HasCause (F.faults files.old) (F.faults files.new) result }
+    ensures last { IfErr result (NamesLast (F.last files.new)) }
 {
     match read_folder(alloc, files, asked.net.as_str()) {
         Ok(devices) => trace_over(alloc, files, devices, asked),
@@ -48,6 +49,7 @@ fn trace_over<F: Files>(
     requires ttl { IsTtl asked.now.ttl }
     ensures job { IfSome (F.told files.old) (λ t. TracesOver t devices.items asked.now result) }
     ensures cause { HasCause (F.faults files.old) (F.faults files.new) result }
+    ensures last { IfErr result (NamesLast (F.last files.new)) }
 {
     let links = asked.links.as_str();
     match read_table(alloc, files, links, Wires::Both, &devices, &devices) {

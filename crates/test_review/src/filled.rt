@@ -14,6 +14,8 @@ impl Files for Filled {
 
     ghost faults = { λ _. 0 };
 
+    ghost last = { λ _. None };
+
     fn list(&mut self, alloc: Global, _path: &str) -> Result<Vec<String>, FileFail> {
         Ok(only_name(alloc)?)
     }
