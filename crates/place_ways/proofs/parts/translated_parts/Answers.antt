@@ -34,7 +34,7 @@ returns-clause-parts c =
     let d1 = c.add_by_rules.new.table in
     let d2 = c.without.new.table in
     let d3 = c.add_by_outers.new.table in
-    all_parts _ d3 _ c.new-parts.result.items c.add_by_outers.new.parts.items c.new-parts.ensures.items (rest_parts _ d0 d1 d2 d3 t.rule c.args.given c.in_ok-rest.rest (rule_of t) c.all.result c.as_slice.result.now c.new-parts.result.items c.add_by_rules.new.parts.items c.add_by_outers.new.parts.items c.all.ensures (subst (GivesOnly (value_at d0 t.rule) c.all.result) (sym c.as_slice.ensures.keys) c.in_ok-rules.ensures) c.in_ok-add_by_rules.ensures.kept c.in_ok-rest.ensures.kept c.in_ok-add_by_outers.ensures.kept r.rule_below c.requires.given r.rule c.in_ok-rest.ensures.set.exact c.in_ok-add_by_rules.ensures.added c.in_ok-add_by_outers.ensures.added)
+    all_parts _ d3 _ c.new-parts.result.items c.add_by_outers.new.parts.items c.new-parts.ensures.items (rest_parts _ d0 d1 d2 d3 t.rule c.args.given c.in_ok-rest.rest (rule_of t) c.all.result c.as_slice.result.now c.new-parts.result.items c.add_by_rules.new.parts.items c.add_by_outers.new.parts.items c.all.ensures (subst (GivesOnly (value_at d0 t.rule) c.all.result) (sym c.as_slice.ensures.keys) c.in_ok-rules.ensures.gives) c.in_ok-add_by_rules.ensures.kept c.in_ok-rest.ensures.kept c.in_ok-add_by_outers.ensures.kept r.rule_below c.requires.given r.rule c.in_ok-rest.ensures.set.exact c.in_ok-add_by_rules.ensures.added c.in_ok-add_by_outers.ensures.added)
 
 pub returns-clause-kept : goal.returns-clause-kept
 returns-clause-kept c =
