@@ -21,7 +21,7 @@ use cube_diagram::{Diagrams, ValueSet};
 use device_fates::Fate;
 use fib_lookup::HopForm;
 use net_types::{NetDevice, NoMemory, Place};
-use set_walk::{Step, Way};
+use set_walk::{Step, Steps, Way};
 use std::alloc::Global;
 
 /// The ways of the headers of the scope that came in at the interface, each move once.
@@ -35,9 +35,9 @@ pub(crate) fn ways_in(
     ensures moves { IfOk result (λ r. HasMoves (moves_in at.entry.wiring.now (seat_of at.entry.seat)) table.new at.entry.scope r.items) }
     ensures kept { Keeps table.old table.new }
 {
-    let mut ways = Vec::new(alloc);
-    add_fates(alloc, table, at, &mut ways)?;
-    Ok(ways)
+    let mut told = Steps::new(alloc);
+    add_fates(alloc, table, at, &mut told)?;
+    Ok(told.ways)
 }
 
 // By all that the device does with destinations.
@@ -45,11 +45,11 @@ fn add_fates(
     alloc: Global,
     table: &mut Diagrams,
     at: WaySeat,
-    ways: &mut Vec<Way>,
+    ways: &mut Steps,
 ) -> Result<(), NoMemory>
     requires at { IsWaySeat table.old at }
-    requires ways { AreGiven table.old ways.old.items }
-    ensures added { OnOk result (AddsWays table.old table.new (MakesAny table.old at.entry.scope (moves_in at.entry.wiring.now (seat_of at.entry.seat))) ways.old.items ways.new.items) }
+    requires ways { AreGiven table.old ways.old.ways.items }
+    ensures added { OnOk result (AddsWays table.old table.new (MakesAny table.old at.entry.scope (moves_in at.entry.wiring.now (seat_of at.entry.seat))) ways.old.ways.items ways.new.ways.items) }
     ensures kept { Keeps table.old table.new }
 {
     let sets = table.sets_by_value(alloc, at.device.fates, at.scope)?;
@@ -63,12 +63,12 @@ fn add_sets(
     table: &mut Diagrams,
     at: WaySeat,
     sets: &[ValueSet],
-    ways: &mut Vec<Way>,
+    ways: &mut Steps,
 ) -> Result<(), NoMemory>
     requires at { IsWaySeat table.old at }
     requires sets { AreFateSets table.old at sets.now }
-    requires ways { AreGiven table.old ways.old.items }
-    ensures added { OnOk result (AddsWays table.old table.new (MakesAny table.old at.entry.scope (moves_in at.entry.wiring.now (seat_of at.entry.seat))) ways.old.items ways.new.items) }
+    requires ways { AreGiven table.old ways.old.ways.items }
+    ensures added { OnOk result (AddsWays table.old table.new (MakesAny table.old at.entry.scope (moves_in at.entry.wiring.now (seat_of at.entry.seat))) ways.old.ways.items ways.new.ways.items) }
     ensures kept { Keeps table.old table.new }
 {
     for one in sets {
@@ -84,13 +84,13 @@ fn add_numbered(
     at: WaySeat,
     number: u32,
     given: u32,
-    ways: &mut Vec<Way>,
+    ways: &mut Steps,
 ) -> Result<(), NoMemory>
     requires at { IsWaySeat table.old at }
     requires below { given < count_of table.old }
     requires number { (h : Header) → IsHeader h → InSet table.old given h → HasValue table.old at.device.now.fates number h }
-    requires ways { AreGiven table.old ways.old.items }
-    ensures added { OnOk result (AddsWays table.old table.new (MakesAny table.old given (moves_in at.entry.wiring.now (seat_of at.entry.seat))) ways.old.items ways.new.items) }
+    requires ways { AreGiven table.old ways.old.ways.items }
+    ensures added { OnOk result (AddsWays table.old table.new (MakesAny table.old given (moves_in at.entry.wiring.now (seat_of at.entry.seat))) ways.old.ways.items ways.new.ways.items) }
     ensures kept { Keeps table.old table.new }
 {
     let Some(fate) = at.fates.get(number) else {
@@ -107,13 +107,13 @@ fn add_fate(
     at: WaySeat,
     fate: &Fate,
     given: u32,
-    ways: &mut Vec<Way>,
+    ways: &mut Steps,
 ) -> Result<(), NoMemory>
     requires at { IsWaySeat table.old at }
     requires fate { (h : Header) → IsHeader h → InSet table.old given h → IsFate at.seat.device.now.config fate.now h.dst }
     requires given { given < count_of table.old }
-    requires ways { AreGiven table.old ways.old.items }
-    ensures added { OnOk result (AddsWays table.old table.new (MakesAny table.old given (moves_in at.entry.wiring.now (seat_of at.entry.seat))) ways.old.items ways.new.items) }
+    requires ways { AreGiven table.old ways.old.ways.items }
+    ensures added { OnOk result (AddsWays table.old table.new (MakesAny table.old given (moves_in at.entry.wiring.now (seat_of at.entry.seat))) ways.old.ways.items ways.new.ways.items) }
     ensures kept { Keeps table.old table.new }
 {
     match fate {
@@ -161,12 +161,12 @@ fn add_choices(
     at: WaySeat,
     choices: &[HopForm],
     given: u32,
-    ways: &mut Vec<Way>,
+    ways: &mut Steps,
 ) -> Result<(), NoMemory>
     requires at { IsWaySeat table.old at }
     requires given { given < count_of table.old }
-    requires ways { AreGiven table.old ways.old.items }
-    ensures added { OnOk result (AddsWays table.old table.new (MakesAny table.old given (λ h. map (move_by at.entry.wiring.now (seat_of at.entry.seat) h) (map (hop_of h.dst) choices.now))) ways.old.items ways.new.items) }
+    requires ways { AreGiven table.old ways.old.ways.items }
+    ensures added { OnOk result (AddsWays table.old table.new (MakesAny table.old given (λ h. map (move_by at.entry.wiring.now (seat_of at.entry.seat) h) (map (hop_of h.dst) choices.now))) ways.old.ways.items ways.new.ways.items) }
     ensures kept { Keeps table.old table.new }
 {
     for form in choices {

@@ -26,7 +26,7 @@ use link_sends::Next;
 use net_forms::FormedSeat;
 use net_types::NoMemory;
 use net_view::{is_inside, is_outside};
-use set_walk::{Step, Way};
+use set_walk::{Step, Steps};
 use std::alloc::Global;
 
 /// An interface of the device, by which headers that came in leave, and the address that they are sent to next.
@@ -44,12 +44,12 @@ pub(crate) fn add_choice(
     at: WaySeat,
     form: &HopForm,
     given: u32,
-    ways: &mut Vec<Way>,
+    ways: &mut Steps,
 ) -> Result<(), NoMemory>
     requires at { IsWaySeat table.old at }
     requires given { given < count_of table.old }
-    requires ways { AreGiven table.old ways.old.items }
-    ensures added { OnOk result (AddsWays table.old table.new (Makes table.old given (λ h. move_by at.entry.wiring.now (seat_of at.entry.seat) h (hop_of h.dst form.now))) ways.old.items ways.new.items) }
+    requires ways { AreGiven table.old ways.old.ways.items }
+    ensures added { OnOk result (AddsWays table.old table.new (Makes table.old given (λ h. move_by at.entry.wiring.now (seat_of at.entry.seat) h (hop_of h.dst form.now))) ways.old.ways.items ways.new.ways.items) }
     ensures kept { Keeps table.old table.new }
 {
     match form {
@@ -90,12 +90,12 @@ fn add_named(
     at: WaySeat,
     hop: Hop,
     given: u32,
-    ways: &mut Vec<Way>,
+    ways: &mut Steps,
 ) -> Result<(), NoMemory>
     requires at { IsWaySeat table.old at }
     requires given { given < count_of table.old }
-    requires ways { AreGiven table.old ways.old.items }
-    ensures added { OnOk result (AddsWays table.old table.new (Makes table.old given (λ h. leave_if_any at.entry.wiring.now (seat_of at.entry.seat) h (next_address hop.entry.next h) (seat_named at.entry.seat.device.now hop.entry.name.now))) ways.old.items ways.new.items) }
+    requires ways { AreGiven table.old ways.old.ways.items }
+    ensures added { OnOk result (AddsWays table.old table.new (Makes table.old given (λ h. leave_if_any at.entry.wiring.now (seat_of at.entry.seat) h (next_address hop.entry.next h) (seat_named at.entry.seat.device.now hop.entry.name.now))) ways.old.ways.items ways.new.ways.items) }
     ensures kept { Keeps table.old table.new }
 {
     let Some(out) = out_named(at, hop.name) else {
@@ -117,13 +117,13 @@ fn add_out(
     table: &mut Diagrams,
     leaving: Leaving,
     given: u32,
-    ways: &mut Vec<Way>,
+    ways: &mut Steps,
 ) -> Result<(), NoMemory>
     requires at { IsWaySeat table.old leaving.at }
     requires out { IsOut table.old leaving }
     requires given { given < count_of table.old }
-    requires ways { AreGiven table.old ways.old.items }
-    ensures added { OnOk result (AddsWays table.old table.new (Makes table.old given (λ h. leave leaving.entry.at.wiring.now (seat_of leaving.entry.at.seat) h (next_address leaving.entry.next h) (seat_of leaving.entry.out.seat))) ways.old.items ways.new.items) }
+    requires ways { AreGiven table.old ways.old.ways.items }
+    ensures added { OnOk result (AddsWays table.old table.new (Makes table.old given (λ h. leave leaving.entry.at.wiring.now (seat_of leaving.entry.at.seat) h (next_address leaving.entry.next h) (seat_of leaving.entry.out.seat))) ways.old.ways.items ways.new.ways.items) }
     ensures kept { Keeps table.old table.new }
 {
     let inside = Translation {
@@ -150,12 +150,12 @@ fn add_parts(
     table: &mut Diagrams,
     leaving: Leaving,
     parts: &[Part],
-    ways: &mut Vec<Way>,
+    ways: &mut Steps,
 ) -> Result<(), NoMemory>
     requires out { IsOut table.old leaving }
     requires parts { AreStamped table.old parts.now }
-    requires ways { AreGiven table.old ways.old.items }
-    ensures added { OnOk result (AddsWays table.old table.new (LeavesByOne table.old parts.now leaving.entry) ways.old.items ways.new.items) }
+    requires ways { AreGiven table.old ways.old.ways.items }
+    ensures added { OnOk result (AddsWays table.old table.new (LeavesByOne table.old parts.now leaving.entry) ways.old.ways.items ways.new.ways.items) }
     ensures kept { Keeps table.old table.new }
 {
     for part in parts {
@@ -172,13 +172,13 @@ fn add_passed(
     leaving: Leaving,
     given: u32,
     stamp: Stamp,
-    ways: &mut Vec<Way>,
+    ways: &mut Steps,
 ) -> Result<(), NoMemory>
     requires out { IsOut table.old leaving }
     requires given { given < count_of table.old }
     requires stamp { IsStamp stamp }
-    requires ways { AreGiven table.old ways.old.items }
-    ensures added { OnOk result (AddsWays table.old table.new (Makes table.old given (λ h. leaves leaving.entry h (applied stamp h))) ways.old.items ways.new.items) }
+    requires ways { AreGiven table.old ways.old.ways.items }
+    ensures added { OnOk result (AddsWays table.old table.new (Makes table.old given (λ h. leaves leaving.entry h (applied stamp h))) ways.old.ways.items ways.new.ways.items) }
     ensures kept { Keeps table.old table.new }
 {
     let passed = where_passed_after(alloc, table, leaving.out.form.output, &stamp, given)?;

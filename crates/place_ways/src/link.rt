@@ -18,7 +18,7 @@ use cube_alg::Stamp;
 use cube_diagram::Diagrams;
 use link_sends::{Addresses, Next, Sent, Wiring};
 use net_types::{NoMemory, Place};
-use set_walk::{Step, Way};
+use set_walk::{Step, Steps};
 use std::alloc::Global;
 
 /// The link of a place, and the stamp that makes what is sent there of the headers that arrived at the device.
@@ -36,12 +36,12 @@ pub(crate) fn add_sent(
     link: Link,
     next: Next,
     given: u32,
-    ways: &mut Vec<Way>,
+    ways: &mut Steps,
 ) -> Result<(), NoMemory>
     requires given { given < count_of table.old }
     requires stamp { IsStamp link.stamp }
-    requires ways { AreGiven table.old ways.old.items }
-    ensures added { OnOk result (AddsWays table.old table.new (Makes table.old given (λ h. send link.entry.wiring.now link.entry.place (next_address next h) (applied link.entry.stamp h) (segment_of link.entry.wiring.now link.entry.place))) ways.old.items ways.new.items) }
+    requires ways { AreGiven table.old ways.old.ways.items }
+    ensures added { OnOk result (AddsWays table.old table.new (Makes table.old given (λ h. send link.entry.wiring.now link.entry.place (next_address next h) (applied link.entry.stamp h) (segment_of link.entry.wiring.now link.entry.place))) ways.old.ways.items ways.new.ways.items) }
     ensures kept { Keeps table.old table.new }
 {
     match next {
@@ -62,12 +62,12 @@ fn add_sent_to(
     link: Link,
     address: u32,
     given: u32,
-    ways: &mut Vec<Way>,
+    ways: &mut Steps,
 ) -> Result<(), NoMemory>
     requires given { given < count_of table.old }
     requires stamp { IsStamp link.stamp }
-    requires ways { AreGiven table.old ways.old.items }
-    ensures added { OnOk result (AddsWays table.old table.new (Makes table.old given (λ h. send link.entry.wiring.now link.entry.place address (applied link.entry.stamp h) (segment_of link.entry.wiring.now link.entry.place))) ways.old.items ways.new.items) }
+    requires ways { AreGiven table.old ways.old.ways.items }
+    ensures added { OnOk result (AddsWays table.old table.new (Makes table.old given (λ h. send link.entry.wiring.now link.entry.place address (applied link.entry.stamp h) (segment_of link.entry.wiring.now link.entry.place))) ways.old.ways.items ways.new.ways.items) }
     ensures kept { Keeps table.old table.new }
 {
     let sent = link.wiring.sent_to(link.place, address);
@@ -82,12 +82,12 @@ fn add_destinations(
     table: &mut Diagrams,
     link: Link,
     given: u32,
-    ways: &mut Vec<Way>,
+    ways: &mut Steps,
 ) -> Result<(), NoMemory>
     requires given { given < count_of table.old }
     requires stamp { IsStamp link.stamp }
-    requires ways { AreGiven table.old ways.old.items }
-    ensures added { OnOk result (AddsWays table.old table.new (Makes table.old given (λ h. send link.entry.wiring.now link.entry.place h.dst (applied link.entry.stamp h) (segment_of link.entry.wiring.now link.entry.place))) ways.old.items ways.new.items) }
+    requires ways { AreGiven table.old ways.old.ways.items }
+    ensures added { OnOk result (AddsWays table.old table.new (Makes table.old given (λ h. send link.entry.wiring.now link.entry.place h.dst (applied link.entry.stamp h) (segment_of link.entry.wiring.now link.entry.place))) ways.old.ways.items ways.new.ways.items) }
     ensures kept { Keeps table.old table.new }
 {
     let addresses = link.wiring.addresses(alloc, link.place)?;
@@ -102,13 +102,13 @@ fn add_by_addresses(
     link: Link,
     addresses: &Addresses,
     given: u32,
-    ways: &mut Vec<Way>,
+    ways: &mut Steps,
 ) -> Result<(), NoMemory>
     requires otherwise { (a : ℕ) → (Contains addresses.now.listed.items a → ⊥) → (h : Header) → send link.wiring.now link.place a h (segment_of link.wiring.now link.place) ≡ sent_move link.place h addresses.now.otherwise }
     requires given { given < count_of table.old }
     requires stamp { IsStamp link.stamp }
-    requires ways { AreGiven table.old ways.old.items }
-    ensures added { OnOk result (AddsWays table.old table.new (Makes table.old given (λ h. send link.entry.wiring.now link.entry.place h.dst (applied link.entry.stamp h) (segment_of link.entry.wiring.now link.entry.place))) ways.old.items ways.new.items) }
+    requires ways { AreGiven table.old ways.old.ways.items }
+    ensures added { OnOk result (AddsWays table.old table.new (Makes table.old given (λ h. send link.entry.wiring.now link.entry.place h.dst (applied link.entry.stamp h) (segment_of link.entry.wiring.now link.entry.place))) ways.old.ways.items ways.new.ways.items) }
     ensures kept { Keeps table.old table.new }
 {
     let listed = addresses.listed.as_slice();
@@ -127,13 +127,13 @@ fn add_listed(
     addresses: &[u32],
     function: u32,
     given: u32,
-    ways: &mut Vec<Way>,
+    ways: &mut Steps,
 ) -> Result<(), NoMemory>
     requires function { TellsAddresses table.old addresses.now function }
     requires given { given < count_of table.old }
     requires stamp { IsStamp link.stamp }
-    requires ways { AreGiven table.old ways.old.items }
-    ensures added { OnOk result (AddsWays table.old table.new (λ h m. ByOne (λ a. HasValue table.old function a h × Makes table.old given (λ h. send link.entry.wiring.now link.entry.place h.dst (applied link.entry.stamp h) (segment_of link.entry.wiring.now link.entry.place)) h m) addresses.now) ways.old.items ways.new.items) }
+    requires ways { AreGiven table.old ways.old.ways.items }
+    ensures added { OnOk result (AddsWays table.old table.new (λ h m. ByOne (λ a. HasValue table.old function a h × Makes table.old given (λ h. send link.entry.wiring.now link.entry.place h.dst (applied link.entry.stamp h) (segment_of link.entry.wiring.now link.entry.place)) h m) addresses.now) ways.old.ways.items ways.new.ways.items) }
     ensures kept { Keeps table.old table.new }
 {
     for address in addresses {
@@ -149,14 +149,14 @@ fn add_address(
     address: u32,
     function: u32,
     given: u32,
-    ways: &mut Vec<Way>,
+    ways: &mut Steps,
 ) -> Result<(), NoMemory>
     requires below { function < count_of table.old }
     requires tells { (h : Header) → IsHeader h → HasValue table.old function address h → h.dst ≡ address }
     requires given { given < count_of table.old }
     requires stamp { IsStamp link.stamp }
-    requires ways { AreGiven table.old ways.old.items }
-    ensures added { OnOk result (AddsWays table.old table.new (λ h m. HasValue table.old function address h × Makes table.old given (λ h. send link.entry.wiring.now link.entry.place h.dst (applied link.entry.stamp h) (segment_of link.entry.wiring.now link.entry.place)) h m) ways.old.items ways.new.items) }
+    requires ways { AreGiven table.old ways.old.ways.items }
+    ensures added { OnOk result (AddsWays table.old table.new (λ h m. HasValue table.old function address h × Makes table.old given (λ h. send link.entry.wiring.now link.entry.place h.dst (applied link.entry.stamp h) (segment_of link.entry.wiring.now link.entry.place)) h m) ways.old.ways.items ways.new.ways.items) }
     ensures kept { Keeps table.old table.new }
 {
     let part = where_value(table, function, address, given)?;

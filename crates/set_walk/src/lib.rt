@@ -29,6 +29,7 @@ pub use levels::{first_level, next_level};
 pub use net::{Net, PlaceWays, ways_at};
 pub use numbers::{LabelNumbers, OutcomeList, label_numbers};
 pub use step::{Step, Way, same_step};
+pub use told::Steps;
 pub use visit_walk::{WalkedSets, labels_and_visitors};
 pub use visits::DeviceVisitors;
 pub use walk::labels;

@@ -11,7 +11,7 @@ pub loop-form-init : goal.loop-form-init
 loop-form-init c =
     record {
       kept = keeps_same c.args.table.now;
-      added = choices_none c.args.table.now c.args.given c.args.ways.now.items c.requires.ways;
+      added = choices_none c.args.table.now c.args.given c.args.ways.now.ways.items c.requires.ways;
     }
 
 pub add_choice-requires-clause-at : goal.add_choice-requires-clause-at
@@ -32,11 +32,11 @@ loop-form-preserved c =
     let e = c.in_ok-add_choice.ensures in
     record {
       kept = keeps_then c.args.table.now c.loop-form.table c.add_choice.new.table c.loop-form.invariant.kept e.kept;
-      added = choice_added c.args.table.now c.loop-form.table c.add_choice.new.table c.args.given (λ g. map (move_by w seat g) (map (hop_of g.dst) (take i xs))) _ (λ g. move_by w seat g (hop_of g.dst c.form-item.result)) c.args.ways.now.items c.loop-form.ways.items c.add_choice.new.ways.items c.loop-form.invariant.kept c.requires.given (λ g. choices_more (move_by w seat g) g.dst xs i c.form-item.result c.loop-form-test.true c.form-item.is) c.loop-form.invariant.added e.added;
+      added = choice_added c.args.table.now c.loop-form.table c.add_choice.new.table c.args.given (λ g. map (move_by w seat g) (map (hop_of g.dst) (take i xs))) _ (λ g. move_by w seat g (hop_of g.dst c.form-item.result)) c.args.ways.now.ways.items c.loop-form.ways.ways.items c.add_choice.new.ways.ways.items c.loop-form.invariant.kept c.requires.given (λ g. choices_more (move_by w seat g) g.dst xs i c.form-item.result c.loop-form-test.true c.form-item.is) c.loop-form.invariant.added e.added;
     }
 
 pub returns-clause-added : goal.returns-clause-added
 returns-clause-added c =
     let w = c.args.at.wiring.now in
     let seat = seat_of c.args.at.seat in
-    subst (λ xs. AddsWays c.args.table.now c.loop-form.table (MakesAny c.args.table.now c.args.given (λ g. map (move_by w seat g) (map (hop_of g.dst) xs))) c.args.ways.now.items c.loop-form.ways.items) (take_all c.loop-form.form-index c.args.choices.now c.loop-form-test.false) c.loop-form.invariant.added
+    subst (λ xs. AddsWays c.args.table.now c.loop-form.table (MakesAny c.args.table.now c.args.given (λ g. map (move_by w seat g) (map (hop_of g.dst) xs))) c.args.ways.now.ways.items c.loop-form.ways.ways.items) (take_all c.loop-form.form-index c.args.choices.now c.loop-form-test.false) c.loop-form.invariant.added

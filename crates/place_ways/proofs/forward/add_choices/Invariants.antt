@@ -10,5 +10,5 @@ abbrev pub invariant-loop-form : goal.invariant-loop-form
 invariant-loop-form l =
     record {
       kept : Keeps l.fn.table l.table;
-      added : AddsWays l.fn.table l.table (MakesAny l.fn.table l.given (λ g. map (move_by l.at.wiring.now (seat_of l.at.seat) g) (map (hop_of g.dst) (take l.form-index l.choices)))) l.fn.ways.items l.ways.items;
+      added : AddsWays l.fn.table l.table (MakesAny l.fn.table l.given (λ g. map (move_by l.at.wiring.now (seat_of l.at.seat) g) (map (hop_of g.dst) (take l.form-index l.choices)))) l.fn.ways.ways.items l.ways.ways.items;
     }

@@ -9,7 +9,7 @@ pub returns-in_default-clause-added : goal.returns-in_default-clause-added
 returns-in_default-clause-added c =
     let s = c.args.at in
     let f = c.args.table.now in
-    nothing_added f f _ c.args.ways.now.items (keeps_same f) c.requires.ways (λ h v m x. no_fate s.seat.device.now.config s.fates.now (value_at f s.device.now.fates (number h)) c.args.number h.dst (c.requires.at.device.numbered h v) (c.requires.number h v x.0) c.in_default.ensures)
+    nothing_added f f _ c.args.ways.now.ways.items (keeps_same f) c.requires.ways (λ h v m x. no_fate s.seat.device.now.config s.fates.now (value_at f s.device.now.fates (number h)) c.args.number h.dst (c.requires.at.device.numbered h v) (c.requires.number h v x.0) c.in_default.ensures)
 
 pub add_fate-requires-clause-fate : goal.add_fate-requires-clause-fate
 add_fate-requires-clause-fate c h v i =

@@ -11,7 +11,7 @@ out_named-requires c = c.requires.at.device.seats.count
 pub returns-in_default-clause-added : goal.returns-in_default-clause-added
 returns-in_default-clause-added c =
     let s = c.args.at in
-    named_none s.wiring.now (seat_of s.seat) c.args.table.now c.join_way.new.table c.args.given (next_address c.args.hop.next) (seat_named s.seat.device.now c.args.hop.name.now) c.args.ways.now.items c.join_way.new.ways.items c.in_default.ensures.seat c.in_ok-join_way.ensures.added
+    named_none s.wiring.now (seat_of s.seat) c.args.table.now c.join_way.new.table c.args.given (next_address c.args.hop.next) (seat_named s.seat.device.now c.args.hop.name.now) c.args.ways.now.ways.items c.join_way.new.ways.ways.items c.in_default.ensures.seat c.in_ok-join_way.ensures.added
 
 pub add_out-requires-clause-out : goal.add_out-requires-clause-out
 add_out-requires-clause-out c =
@@ -21,4 +21,4 @@ add_out-requires-clause-out c =
 pub returns-clause-added : goal.returns-clause-added
 returns-clause-added c =
     let s = c.args.at in
-    named_some s.wiring.now (seat_of s.seat) (seat_of c.in-Some.out.seat) c.args.table.now c.add_out.new.table c.args.given (next_address c.args.hop.next) (seat_named s.seat.device.now c.args.hop.name.now) c.args.ways.now.items c.add_out.new.ways.items c.in-Some.ensures.seat c.in_ok-add_out.ensures.added
+    named_some s.wiring.now (seat_of s.seat) (seat_of c.in-Some.out.seat) c.args.table.now c.add_out.new.table c.args.given (next_address c.args.hop.next) (seat_named s.seat.device.now c.args.hop.name.now) c.args.ways.now.ways.items c.add_out.new.ways.ways.items c.in-Some.ensures.seat c.in_ok-add_out.ensures.added

@@ -27,7 +27,7 @@ add_parts-requires-clause-parts c =
     subst (AreStamped c.parts_of.new.table) (sym c.deref.ensures.value) (stamped _ c.parts_of.new.table _ c.in_ok-parts.parts.items c.in_ok-parts.ensures.parts)
 
 pub add_parts-requires-clause-ways : goal.add_parts-requires-clause-ways
-add_parts-requires-clause-ways c = given_kept c.args.table.now c.parts_of.new.table c.args.ways.now.items c.in_ok-parts.ensures.kept c.requires.ways
+add_parts-requires-clause-ways c = given_kept c.args.table.now c.parts_of.new.table c.args.ways.now.ways.items c.in_ok-parts.ensures.kept c.requires.ways
 
 pub returns-clause-added : goal.returns-clause-added
 returns-clause-added c =
@@ -39,7 +39,7 @@ returns-clause-added c =
     let k = c.add_parts.new.table in
     let parts = c.in_ok-parts.parts.items in
     let go : AreParts g (InSet f c.args.given) (going_out seat out) parts = subst (λ b. AreParts g (InSet f c.args.given) (λ h. if b then from_inside seat.device.config.nat h else h) parts) c.goes_outside-translated.ensures c.in_ok-parts.ensures.parts in
-    by_parts (going_out seat out) f g k c.args.given parts (λ h q m. leaves l h q ≡ m) c.args.ways.now.items c.add_parts.new.ways.items c.in_ok-parts.ensures.kept c.requires.ways go (subst (λ ps. AddsWays g k (LeavesByOne g ps l) c.args.ways.now.items c.add_parts.new.ways.items) c.deref.ensures.value c.in_ok-add_parts.ensures.added)
+    by_parts (going_out seat out) f g k c.args.given parts (λ h q m. leaves l h q ≡ m) c.args.ways.now.ways.items c.add_parts.new.ways.ways.items c.in_ok-parts.ensures.kept c.requires.ways go (subst (λ ps. AddsWays g k (LeavesByOne g ps l) c.args.ways.now.ways.items c.add_parts.new.ways.ways.items) c.deref.ensures.value c.in_ok-add_parts.ensures.added)
 
 pub returns-clause-kept : goal.returns-clause-kept
 returns-clause-kept c = keeps_then c.args.table.now c.parts_of.new.table c.add_parts.new.table c.in_ok-parts.ensures.kept c.in_ok-add_parts.ensures.kept

@@ -12,7 +12,7 @@ use Rattle.place_ways.proofs.leave.add_parts.Goals as goal
 pub loop-part-init : goal.loop-part-init
 loop-part-init c = record {
   kept = keeps_same c.args.table.now;
-  added = none_does _ c.args.table.now c.args.ways.now.items c.requires.ways;
+  added = none_does _ c.args.table.now c.args.ways.now.ways.items c.requires.ways;
 }
 
 pub add_passed-requires-clause-out : goal.add_passed-requires-clause-out
@@ -39,10 +39,10 @@ loop-part-preserved c =
     let o = c.in_ok-add_passed.ensures in
     record {
       kept = keeps_then f l.table k l.invariant.kept o.kept;
-      added = one_does (λ (p : Part) h m. Makes f p.headers (λ q. leaves c.args.leaving q (applied p.stamp q)) h m) f l.table k _ xs l.part-index one c.args.ways.now.items l.ways.items c.add_passed.new.ways.items c.loop-part-test.true (part_is xs l.part-index c.loop-part-test.true) (λ h v m. let z = kept_set f l.table one.headers h l.invariant.kept (c.requires.parts one (part_among xs l.part-index c.loop-part-test.true)).0 in (λ x. (z.0 x.0, x.1), λ x. (z.1 x.0, x.1))) l.invariant.added o.added;
+      added = one_does (λ (p : Part) h m. Makes f p.headers (λ q. leaves c.args.leaving q (applied p.stamp q)) h m) f l.table k _ xs l.part-index one c.args.ways.now.ways.items l.ways.ways.items c.add_passed.new.ways.ways.items c.loop-part-test.true (part_is xs l.part-index c.loop-part-test.true) (λ h v m. let z = kept_set f l.table one.headers h l.invariant.kept (c.requires.parts one (part_among xs l.part-index c.loop-part-test.true)).0 in (λ x. (z.0 x.0, x.1), λ x. (z.1 x.0, x.1))) l.invariant.added o.added;
     }
 
 pub returns-clause-added : goal.returns-clause-added
 returns-clause-added c =
     let f = c.args.table.now in
-    subst (λ ps. AddsWays f c.loop-part.table (LeavesByOne f ps c.args.leaving) c.args.ways.now.items c.loop-part.ways.items) (take_all c.loop-part.part-index c.args.parts.now c.loop-part-test.false) c.loop-part.invariant.added
+    subst (λ ps. AddsWays f c.loop-part.table (LeavesByOne f ps c.args.leaving) c.args.ways.now.ways.items c.loop-part.ways.ways.items) (take_all c.loop-part.part-index c.args.parts.now c.loop-part-test.false) c.loop-part.invariant.added

@@ -12,7 +12,7 @@ join_way-requires-clause-ways c =
     let d0 = c.args.table.now in
     let d1 = c.where_passed_after.new.table in
     let d2 = c.without.new.table in
-    given_kept d0 d2 c.args.ways.now.items (keeps_then d0 d1 d2 c.in_ok-passed.ensures.kept c.in_ok-lost.ensures.kept) c.requires.ways
+    given_kept d0 d2 c.args.ways.now.ways.items (keeps_then d0 d1 d2 c.in_ok-passed.ensures.kept c.in_ok-lost.ensures.kept) c.requires.ways
 
 pub add_sent-requires-clause-given : goal.add_sent-requires-clause-given
 add_sent-requires-clause-given c =
@@ -33,7 +33,7 @@ returns-clause-added c =
     let s = c.args.stamp in
     let p = c.in_ok-passed in
     let l = c.in_ok-lost in
-    passed_lost d0 d1 d2 d3 d4 (list_named c.args.leaving.at.seat.device.now.config out.seat.interface.now.output) out.form.output c.args.given p.passed l.lost s (λ h. send w out.seat.place (next_address c.args.leaving.next h) (applied s h) (segment_of w out.seat.place)) c.args.ways.now.items c.join_way.new.ways.items c.add_sent.new.ways.items c.requires.stamp c.requires.out.output c.requires.given p.ensures.set.below c.requires.ways p.ensures.kept l.ensures.kept c.in_ok-join_way.ensures.kept p.ensures.set.exact l.ensures.set.exact c.in_ok-join_way.ensures.added c.in_ok-add_sent.ensures.added
+    passed_lost d0 d1 d2 d3 d4 (list_named c.args.leaving.at.seat.device.now.config out.seat.interface.now.output) out.form.output c.args.given p.passed l.lost s (λ h. send w out.seat.place (next_address c.args.leaving.next h) (applied s h) (segment_of w out.seat.place)) c.args.ways.now.ways.items c.join_way.new.ways.ways.items c.add_sent.new.ways.ways.items c.requires.stamp c.requires.out.output c.requires.given p.ensures.set.below c.requires.ways p.ensures.kept l.ensures.kept c.in_ok-join_way.ensures.kept p.ensures.set.exact l.ensures.set.exact c.in_ok-join_way.ensures.added c.in_ok-add_sent.ensures.added
 
 pub returns-clause-kept : goal.returns-clause-kept
 returns-clause-kept c =

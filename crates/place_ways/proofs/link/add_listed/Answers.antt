@@ -13,7 +13,7 @@ use Rattle.place_ways.proofs.link.add_listed.Goals as goal
 pub loop-address-init : goal.loop-address-init
 loop-address-init c = record {
   kept = keeps_same c.args.table.now;
-  added = none_does _ c.args.table.now c.args.ways.now.items c.requires.ways;
+  added = none_does _ c.args.table.now c.args.ways.now.ways.items c.requires.ways;
 }
 
 pub add_address-requires-clause-below : goal.add_address-requires-clause-below
@@ -41,11 +41,11 @@ loop-address-preserved c =
     let o = c.in_ok-add_address.ensures in
     record {
       kept = keeps_then f g k c.loop-address.invariant.kept o.kept;
-      added = one_does (λ d h m. HasValue f c.args.function d h × Makes f c.args.given (λ q. send l.wiring.now l.place q.dst (applied l.stamp q) (segment_of l.wiring.now l.place)) h m) f g k _ xs i one c.args.ways.now.items c.loop-address.ways.items c.add_address.new.ways.items c.loop-address-test.true (get_or_default xs i 0 one c.loop-address-test.true) (λ h v m. stage_kept f g c.args.function c.args.given one (number h) h _ c.loop-address.invariant.kept c.requires.function.below c.requires.given) c.loop-address.invariant.added o.added;
+      added = one_does (λ d h m. HasValue f c.args.function d h × Makes f c.args.given (λ q. send l.wiring.now l.place q.dst (applied l.stamp q) (segment_of l.wiring.now l.place)) h m) f g k _ xs i one c.args.ways.now.ways.items c.loop-address.ways.ways.items c.add_address.new.ways.ways.items c.loop-address-test.true (get_or_default xs i 0 one c.loop-address-test.true) (λ h v m. stage_kept f g c.args.function c.args.given one (number h) h _ c.loop-address.invariant.kept c.requires.function.below c.requires.given) c.loop-address.invariant.added o.added;
     }
 
 pub returns-clause-added : goal.returns-clause-added
 returns-clause-added c =
     let l = c.args.link in
     let f = c.args.table.now in
-    subst (λ xs. AddsWays f c.loop-address.table (λ h m. ByOne (λ d. HasValue f c.args.function d h × Makes f c.args.given (λ q. send l.wiring.now l.place q.dst (applied l.stamp q) (segment_of l.wiring.now l.place)) h m) xs) c.args.ways.now.items c.loop-address.ways.items) (take_all c.loop-address.address-index c.args.addresses.now c.loop-address-test.false) c.loop-address.invariant.added
+    subst (λ xs. AddsWays f c.loop-address.table (λ h m. ByOne (λ d. HasValue f c.args.function d h × Makes f c.args.given (λ q. send l.wiring.now l.place q.dst (applied l.stamp q) (segment_of l.wiring.now l.place)) h m) xs) c.args.ways.now.ways.items c.loop-address.ways.ways.items) (take_all c.loop-address.address-index c.args.addresses.now c.loop-address-test.false) c.loop-address.invariant.added

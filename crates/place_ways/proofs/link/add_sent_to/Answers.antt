@@ -10,4 +10,4 @@ join_way-requires-clause-fits c =
 
 pub returns-clause-added : goal.returns-clause-added
 returns-clause-added c =
-    sent_to_added c.args.link.wiring.now c.args.link.place c.args.link.stamp c.args.table.now c.join_way.new.table c.args.address c.args.given c.sent_to-sent.result c.stamped_step-step.result c.args.ways.now.items c.join_way.new.ways.items c.stamped_step-step.ensures c.sent_to-sent.ensures c.in_ok-join_way.ensures.added
+    sent_to_added c.args.link.wiring.now c.args.link.place c.args.link.stamp c.args.table.now c.join_way.new.table c.args.address c.args.given c.sent_to-sent.result c.stamped_step-step.result c.args.ways.now.ways.items c.join_way.new.ways.ways.items c.stamped_step-step.ensures c.sent_to-sent.ensures c.in_ok-join_way.ensures.added
