@@ -25,3 +25,4 @@ pub use asked::answer;
 pub use reading::read_questions;
 pub use refusal::{QuestionFail, QuestionRefusal};
 pub use text::{answers_bytes, failed_count};
+pub use workers::answers_by;

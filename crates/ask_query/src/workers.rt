@@ -25,8 +25,10 @@ use std::thread::Threads;
 use steal_pool::{Gate, Workers, run, whole_slots};
 use table_twins::{Base, Twins};
 
-/// The answers to the questions, in their order. A slot is worked on by one worker; what all share is made before.
-pub(crate) fn answers_by<G: Gate + Sync, R: Threads + Wait + Sync>(
+/// The answers that `answer` gives, of a network whose ways are known for all headers: sets of this table.
+///
+/// Questions that share walks are one slot, and a slot is worked on by one worker. It answers `NoMemory` only where there was none.
+pub fn answers_by<G: Gate + Sync, R: Threads + Wait + Sync>(
     by: &Workers<R, G>,
     alloc: Global,
     mut table: Diagrams,

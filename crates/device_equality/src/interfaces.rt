@@ -31,7 +31,9 @@ fn same_interface(a: &Interface, b: &Interface) -> bool
         && same_side(a.side, b.side)
 }
 
-fn same_primary(a: Option<Subnet>, b: Option<Subnet>) -> bool
+/// Whether two primary addresses are known to be equal, or there is none on either side. The contract says nothing of the answer
+/// `false`.
+pub fn same_primary(a: Option<Subnet>, b: Option<Subnet>) -> bool
     ensures { result ≡ true → a ≡ b }
 {
     match (a, b) {

@@ -11,7 +11,8 @@ mod routes;
 
 use access_lists::same_access_lists;
 use interfaces::same_interfaces;
-pub use lists::same_nat_rules;
+pub use interfaces::same_primary;
+pub use lists::{same_nat_rules, same_subnets};
 use lists::{same_numbers, same_text};
 use net_types::{Config, NetDevice};
 use routes::same_routes;

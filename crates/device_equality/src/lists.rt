@@ -44,7 +44,8 @@ fn same_nat_rule(a: NatRule, b: NatRule) -> bool
     a == b
 }
 
-pub(crate) fn same_subnets(a: &[Subnet], b: &[Subnet]) -> bool
+/// Whether two lists of subnets are known to be equal, one by one in order. The contract says nothing of the answer `false`.
+pub fn same_subnets(a: &[Subnet], b: &[Subnet]) -> bool
     ensures { result ≡ true → a.now ≡ b.now }
 {
     if a.len() != b.len() {

@@ -17,3 +17,4 @@ mod sweep;
 mod used;
 
 pub use reach::Reach;
+pub use used::used_positions;

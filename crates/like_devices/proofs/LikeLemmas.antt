@@ -62,7 +62,7 @@ module _ (w v : World) (d : NetDevice) (alike : (n : ℕ) → Contains d.numbers
   inside : (seat : Seat) (g : Header) → seat.device ≡ d → moves_in w seat g ≡ moves_in v seat g
   inside seat g e = ap (λ ms. cond (is_dropped seat.device.config g.dst) (move.Drop ∷ []) ms) (forwards seat g e (owner seat g.dst))
 
-  at : (o : Option Seat) (h : Header) → ((seat : Seat) → Some seat ≡ o → seat.device ≡ d) → moves_at w o h ≡ moves_at v o h
+  pub at : (o : Option Seat) (h : Header) → ((seat : Seat) → Some seat ≡ o → seat.device ≡ d) → moves_at w o h ≡ moves_at v o h
   at None h p = refl
   at (Some seat) h p = ap (λ ms. cond (lets_in seat h) ms (move.Drop ∷ [])) (inside seat (coming_in seat h) (p seat refl))
 

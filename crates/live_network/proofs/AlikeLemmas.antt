@@ -5,7 +5,7 @@ use Rattle.std.specs.Prelude.{Contains}
 use Rattle.std.specs.List.{list_any}
 use Rattle.std.proofs.lemmas.Bool.Decides.{eqb_tells}
 use Rattle.hdr_bits.specs.declared.header.Header.{Header}
-use Rattle.like_devices.proofs.LikeLemmas.{IsPlaceOf, placed_in, same_map}
+use Rattle.like_devices.proofs.LikeLemmas.{at}
 use Rattle.link_sends.specs.Sending.{SendAlike}
 use Rattle.link_sends.proofs.FirstPlaceLemmas.{one_place}
 use Rattle.net_types.specs.declared.config.Interface.{Interface}
@@ -45,31 +45,11 @@ module _ (x y : NetDevice) (n : ℕ) where
       }
 
 -- ---- two networks in which the device sends alike
-module _ (u w : World) (d : NetDevice) (alike : (n : ℕ) → Contains d.numbers n → SendAlike u w (record { device = d.name; interface = n })) where
-  sends : (out : Seat) → IsPlaceOf d out.place → SendAlike u w out.place
-  sends out p = subst (SendAlike u w) (sym p.place) (alike p.number p.among)
+of_that : (d : NetDevice) (seat : Seat) → seat.device ≡ d → (s : Seat) → Some s ≡ Some seat → s.device ≡ d
+of_that d seat e s q = cc
 
-  leaves_with : (seat out : Seat) (g : Header) (a : ℕ) → IsPlaceOf d out.place → leave_with u seat g a out ≡ leave_with w seat g a out
-  leaves_with seat out g a p = ap (λ m. cond (passes_list seat.device.config out.interface.output g) m move.Lost) (sends out p g a)
-
-  leaves : (seat : Seat) (g : Header) (a : ℕ) (o : Option Seat) → ((out : Seat) → Some out ≡ o → IsPlaceOf d out.place) → leave_if_any u seat g a o ≡ leave_if_any w seat g a o
-  leaves seat g a None p = refl
-  leaves seat g a (Some out) p = leaves_with seat out (going_out seat out g) a (p out refl)
-
-  by : (seat : Seat) (g : Header) → seat.device ≡ d → (x : Hop) → move_by u seat g x ≡ move_by w seat g x
-  by seat g e hop.Discard = refl
-  by seat g e (hop.Out name a) =
-      leaves seat g a (seat_named seat.device name) (λ out s. (placed_in d (position (λ i. same_text i.name name) d.config.interfaces) out (subst (λ x. Some out ≡ seat_named x name) e s)).1)
-
-  forwards : (seat : Seat) (g : Header) → seat.device ≡ d → (o : Option Seat) → local_or_forward u seat g o ≡ local_or_forward w seat g o
-  forwards seat g e None = same_map (move_by u seat g) (move_by w seat g) (hops (rib_of seat.device.config) g.dst) (by seat g e)
-  forwards seat g e (Some own) = refl
-
-  inside : (seat : Seat) (g : Header) → seat.device ≡ d → moves_in u seat g ≡ moves_in w seat g
-  inside seat g e = ap (λ ms. cond (is_dropped seat.device.config g.dst) (move.Drop ∷ []) ms) (forwards seat g e (owner seat g.dst))
-
-  pub at_same : (seat : Seat) (h : Header) → seat.device ≡ d → moves_at u (Some seat) h ≡ moves_at w (Some seat) h
-  at_same seat h e = ap (λ ms. cond (lets_in seat h) ms (move.Drop ∷ [])) (inside seat (coming_in seat h) e)
+pub at_same : (u w : World) (d : NetDevice) → ((n : ℕ) → Contains d.numbers n → SendAlike u w (record { device = d.name; interface = n })) → (seat : Seat) (h : Header) → seat.device ≡ d → moves_at u (Some seat) h ≡ moves_at w (Some seat) h
+at_same u w d alike seat h e = at u w d alike (Some seat) h (of_that d seat e)
 
 -- ---- links of which those segments are left that devices of some names have an end on
 find_among : {A : Type 0} (p q : A → Bool) (xs : List A) → ((x : A) → p x ≡ true → q x ≡ true) → find p (filter q xs) ≡ find p xs

@@ -5,3 +5,4 @@ pub mod ReplaceLemmas
 pub mod PutLemmas
 pub mod LiveLemmas
 pub mod NetworkLemmas
+pub mod CopyLemmas

@@ -5,3 +5,4 @@ pub mod Clearing
 pub mod Live
 pub mod Near
 pub mod Putting
+pub mod Copied

@@ -1,9 +1,10 @@
 //! Whether two versions of a device answer their neighbours alike at an interface.
 
-ghost use Rattle.std.specs.Prelude.{◌≡◌, IsTrue};
+ghost use Rattle.std.specs.Prelude.{IsTrue};
 ghost use Rattle.live_network.specs.Shown.{AnswerAlike, AnswerAlikeAt};
 
-use net_types::{Interface, NetDevice, Subnet};
+use device_equality::{same_primary, same_subnets};
+use net_types::{Interface, NetDevice};
 use net_view::{is_enabled, seat_numbered};
 
 /// Whether the interfaces of this number are known to answer for the same addresses, or neither version has one. A false answer
@@ -24,34 +25,4 @@ fn interfaces_answer_alike(one: &Interface, other: &Interface) -> bool
     is_enabled(one) == is_enabled(other)
         && same_primary(one.primary, other.primary)
         && same_subnets(one.secondary.as_slice(), other.secondary.as_slice())
-}
-
-fn same_primary(one: Option<Subnet>, other: Option<Subnet>) -> bool
-    ensures { IsTrue result → one ≡ other }
-{
-    match (one, other) {
-        (None, None) => true,
-        (Some(a), Some(b)) => same_subnet(a, b),
-        _ => false,
-    }
-}
-
-fn same_subnets(one: &[Subnet], other: &[Subnet]) -> bool
-    ensures { IsTrue result → one.now ≡ other.now }
-{
-    if one.len() != other.len() {
-        return false;
-    }
-    for i in 0..one.len() {
-        if !same_subnet(one[i], other[i]) {
-            return false;
-        }
-    }
-    true
-}
-
-fn same_subnet(one: Subnet, other: Subnet) -> bool
-    ensures { IsTrue result → one ≡ other }
-{
-    one == other
 }

@@ -7,13 +7,16 @@
 #![tactic(auto)]
 
 mod alike;
+mod anew;
 mod clear;
+mod copied;
 mod live;
 mod near;
 mod network;
 mod replace;
 mod touched;
 
-pub use live::{LiveWays, open_ways};
+pub use anew::settle;
+pub use live::{LiveWays, net_of, open_ways, ways_of_formed};
 pub use network::LiveNetwork;
-pub use replace::{Replacement, replace_device};
+pub use replace::{Replacement, replace_at, replace_device};

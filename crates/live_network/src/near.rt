@@ -46,7 +46,8 @@ fn touches(names: &[u32], segment: &Segment) -> bool
         .any(|end| has_name(names, end.device))
 }
 
-fn has_name(names: &[u32], name: u32) -> bool
+/// Whether the name is one of these.
+pub(crate) fn has_name(names: &[u32], name: u32) -> bool
     ensures { result ≡ list_any (λ n. n == name) names.now }
 {
     names.iter().any(|n| *n == name)

@@ -12,8 +12,9 @@ ghost use Rattle.set_walk.specs.Sets.{InSet};
 ghost use Rattle.live_network.specs.Live.{IsLive, IsRenewed};
 ghost use Rattle.live_network.specs.Replaced.{IsReplaced, with_device};
 
+use crate::anew::settle;
 use crate::live::{LiveWays, open_ways};
-use crate::replace::{Replacement, replace_device};
+use crate::replace::replace_at;
 use net_types::{Links, List, NetDevice, Network, NoMemory};
 use net_view::WorldRef;
 use std::alloc::Global;
@@ -103,6 +104,11 @@ impl<'a> LiveNetwork<'a> {
         ensures as_before { OnErr result (self.new ≡ self.old) }
     {
         let before = replace_in(alloc, &mut self.network, self.links, &mut self.live, device)?;
+        let world = WorldRef {
+            network: &self.network,
+            links: self.links,
+        };
+        settle(alloc, world, &mut self.live);
         Ok(before)
     }
 }
@@ -151,7 +157,7 @@ fn replace_found(
         network: &*network,
         links,
     };
-    match replace_at(alloc, live, world, &before, index) {
+    match put_at(alloc, live, world, &before, index) {
         Ok(()) => Ok(before),
         Err(_) => {
             swap_at(alloc, network, index, before);
@@ -161,7 +167,7 @@ fn replace_found(
 }
 
 // What is kept of the network, in which another device stood at this position before.
-fn replace_at(
+fn put_at(
     alloc: Global,
     live: &mut LiveWays,
     world: WorldRef,
@@ -175,14 +181,7 @@ fn replace_at(
     ensures as_before { OnErr result ((p : Place) → get same_place live.new.ways.positions p ≡ get same_place live.old.ways.positions p) }
     ensures renewed { IsRenewed live.old live.new }
 {
-    let devices = world.network.devices.as_slice();
-    let after = &devices[position];
-    let at = Replacement {
-        world,
-        before,
-        after,
-    };
-    replace_device(alloc, live, at)?;
+    replace_at(alloc, live, world, before, position)?;
     Ok(())
 }
 

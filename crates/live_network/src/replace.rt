@@ -1,10 +1,11 @@
 //! A device that is replaced by another configuration of its name.
 
-ghost use Rattle.std.specs.Prelude.{◌≡◌, ◌==◌, ◌<◌, Contains, IfOk, OnErr, OnOk, find};
+ghost use Rattle.std.specs.Prelude.{◌≡◌, ◌==◌, ◌<◌, Contains, IfOk, OnErr, OnOk, Some, find, length, slice_get};
 ghost use Rattle.hdr_bits.specs.declared.header.Header.{Header};
 ghost use Rattle.indexmap.specs.IndexMap.{get};
 ghost use Rattle.cube_diagram.specs.Functions.{count_of};
 ghost use Rattle.link_sends.specs.Sending.{SendAlike};
+ghost use Rattle.net_types.specs.declared.network.NetDevice.{NetDevice};
 ghost use Rattle.net_types.specs.declared.network.Place.{Place};
 ghost use Rattle.net_types.specs.World.{World, same_place};
 ghost use Rattle.net_view.specs.Borrowed.{world_of};
@@ -56,7 +57,7 @@ pub fn replace_device(
 {
     let segments = at.world.links.segments.as_slice();
     let names = touched_names(alloc, segments, at.before, at.after)?;
-    let before = copy_of(&live.ways.positions)?;
+    let before = copied_positions(&live.ways.positions)?;
     let numbers = at.before.numbers.as_slice();
     clear_places(&mut live.ways.positions, at.before.name, numbers);
     match put_names(alloc, live, at.world, &names) {
@@ -68,7 +69,41 @@ pub fn replace_device(
     }
 }
 
-fn copy_of(positions: &IndexMap<Place, usize>) -> Result<IndexMap<Place, usize>, NoMemory>
+/// The same where the device stands at this position of the network's devices.
+///
+/// # Errors
+///
+/// There was no memory. Then each place has its position still, and what is kept is that of the network before.
+pub fn replace_at(
+    alloc: Global,
+    live: &mut LiveWays,
+    world: WorldRef,
+    before: &NetDevice,
+    position: usize,
+) -> Result<IndexMap<Place, usize>, NoMemory>
+    requires scope { live.old.scope < count_of live.old.tables.diagrams }
+    requires all { (h : Header) → InSet live.old.tables.diagrams live.old.scope h }
+    requires position { position < length world.network.now.devices }
+    ensures live { OnOk result ((v : World) (y : NetDevice) → slice_get world.entry.network.now.devices position ≡ Some y → IsReplaced v (world_of world.entry) before.now y → IsLive v live.old → IsLive (world_of world.entry) live.new) }
+    ensures before { IfOk result (λ r. (p : Place) → get same_place r p ≡ get same_place live.old.ways.positions p) }
+    ensures as_before { OnErr result ((p : Place) → get same_place live.new.ways.positions p ≡ get same_place live.old.ways.positions p) }
+    ensures renewed { IsRenewed live.old live.new }
+{
+    let devices = world.network.devices.as_slice();
+    let after = &devices[position];
+    let at = Replacement {
+        world,
+        before,
+        after,
+    };
+    let positions = replace_device(alloc, live, at)?;
+    Ok(positions)
+}
+
+/// The same positions once more.
+pub(crate) fn copied_positions(
+    positions: &IndexMap<Place, usize>,
+) -> Result<IndexMap<Place, usize>, NoMemory>
     ensures { IfOk result (λ r. (p : Place) → get same_place r p ≡ get same_place positions.now p) }
 {
     let copy = positions.clone()?;

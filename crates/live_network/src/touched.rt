@@ -5,6 +5,7 @@ ghost use Rattle.live_network.specs.Shown.{AnswerAlikeAt, EndsAnswerAlike};
 ghost use Rattle.live_network.specs.Touched.{AreNamed, AreTouched, HasAll, IsNamedIn};
 
 use crate::alike::answers_alike;
+use crate::near::has_name;
 use net_types::{NetDevice, NoMemory, Place, Segment};
 use std::alloc::Global;
 
@@ -75,15 +76,4 @@ fn add_name(names: &mut Vec<u32>, name: u32) -> Result<(), NoMemory>
     }
     names.push(name)?;
     Ok(())
-}
-
-fn has_name(names: &[u32], name: u32) -> bool
-    ensures { IsTrue result → Contains names.now name }
-{
-    for n in names {
-        if *n == name {
-            return true;
-        }
-    }
-    false
 }

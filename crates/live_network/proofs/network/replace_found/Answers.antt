@@ -26,7 +26,7 @@ returns-in-Err-clause-as_before c =
 pub returns-in-Err-clause-live : goal.returns-in-Err-clause-live
 returns-in-Err-clause-live c =
     let old = c.args.network.now in
-    let new = c.replace_at.new.live in
+    let new = c.put_at.new.live in
     let links = c.args.links.now in
     let back = put_back old c.swap_at-before.new.network c.args.index c.args.device c.swap_at-before.ensures.network c.swap_at-before.result c.swap_at.new.network c.swap_at-before.ensures.device c.swap_at.ensures.network in
     subst (λ (n : Network). IsLive (record { network = n; links = links }) new) (sym back)
