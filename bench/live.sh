@@ -1,0 +1,16 @@
+#!/usr/bin/env bash
+# A network that changes device by device. First thousands of random changes of small networks, after each of which the ways, the labels
+# and the visits of all places are compared with those that are found from nothing. Then times: a fabric of 16 spines and 1,000 leaves
+# is opened once, and changed 1,000 times, by a route at leaves, an entry at leaves, a route at spines, or one at a device off every
+# path: the milliseconds of the opening, microseconds of a change, and the pages of memory after the first change and after the last.
+# Words choose a fabric, as `16 250`, and how many changes.
+cd "$(dirname "$0")/.." || exit 1
+test=${DIQENYU_TEST_LIVE:-crates/test_live/out/test_live}
+bench=${DIQENYU_BENCH_LIVE:-crates/bench_live/out/bench_live}
+[ -x "$test" ] || (cd crates/test_live && rt run) >/dev/null 2>&1
+[ -x "$bench" ] || (cd crates/bench_live && rt run) >/dev/null 2>&1
+"$test" 20 1000
+for kind in route entry spine away; do
+    echo "$kind:"
+    "$bench" "${1:-16}" "${2:-1000}" "$kind" "${3:-1000}" time
+done
