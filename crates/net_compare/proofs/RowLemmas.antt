@@ -1,16 +1,13 @@
 -- From numbers of pairs of labels to rows.
 use Rattle.std.proofs.Common.{◌≡◌, ℕ, zero, suc, List, [], ◌∷◌, ◌++◌, Option, Some, None, IsSome, slice_get, length, inl, inr, ◌⊎◌, true≢false, refl, sym, ap, subst, ◌∙◌}
 use Rattle.std.specs.Prelude.{slice_index_or}
-use Rattle.std.specs.Option.{option_map_or}
 use Rattle.hdr_bits.specs.Lists.{Extends}
 use Rattle.cube_diagram.specs.declared.paired.ValuePair.{ValuePair}
 use Rattle.cube_diagram.specs.Images.{retold}
 use Rattle.cube_diagram.specs.Paired.{IsPairAt}
 use Rattle.net_types.specs.declared.label.Outcome.{Outcome}
-use Rattle.set_walk.specs.declared.numbers.OutcomeList.{OutcomeList}
-use Rattle.set_walk.specs.Numbers.{outcomes_at}
 use Rattle.pair_rows.specs.Pairs.{IsNumberOf}
-use Rattle.net_compare.specs.Rows.{HasOutcomes, IsToldFor, IsToldAt, AreTold, labels_by}
+use Rattle.net_compare.specs.Rows.{IsToldAt, AreTold}
 
 abbrev Pairs : Type 0
 Pairs = List (List Outcome × List Outcome)
@@ -39,45 +36,32 @@ last_or_before [] x y (suc n) e = absurd cc
 last_or_before (z ∷ xs) x y zero e = inl e
 last_or_before (z ∷ xs) x y (suc n) e = elim (last_or_before xs x y n e) [ inl q ↦ inl q | inr q ↦ inr (ap suc q.0, q.1) ]
 
--- ---- where a label stands
-pub there : (labels : List OutcomeList) (n : ℕ) (l : OutcomeList) → slice_get labels n ≡ Some l → outcomes_at labels n ≡ l.outcomes.items
-there labels n l e = ap (λ o. option_map_or (λ x. x.outcomes.items) o []) e
-
-pub nowhere : (labels : List OutcomeList) (n : ℕ) → slice_get labels n ≡ None → outcomes_at labels n ≡ []
-nowhere labels n e = ap (λ o. option_map_or (λ x. x.outcomes.items) o []) e
-
-pub no_items : {A : Type 0} (xs : List A) → length xs ≡ 0 → xs ≡ []
-no_items [] e = refl
-no_items (x ∷ xs) e = absurd cc
-
-pub still_told : (ls ms : List OutcomeList) (old new : Pairs) → Extends old new → (two : ValuePair) (o : Option ℕ) → IsToldFor ls ms old two o → IsToldFor ls ms new two o
-still_told ls ms old new g two o t = λ a b. still_number old new g o (labels_by ls ms two.first two.second) (t a b)
-
 -- ---- what is told of two numbers is told of each header that has them
 told_there : (told : List (Option ℕ)) (n : ℕ) (o : Option ℕ) → slice_get told n ≡ Some o → slice_index_or told n None ≡ o
 told_there [] n o e = absurd cc
 told_there (t ∷ told) zero o e = cc
 told_there (t ∷ told) (suc n) o e = told_there told n o e
 
-pub number_of_pair : (ls ms : List OutcomeList) (pairs : Pairs) (numbers : List ValuePair) (told : List (Option ℕ)) (x y both : Option ℕ) → AreTold ls ms pairs numbers told → IsPairAt numbers x y both → HasOutcomes ls x → HasOutcomes ms y → IsNumberOf pairs (retold told both) (labels_by ls ms x y)
-number_of_pair ls ms pairs numbers told x y None t p a b = ap (λ (o : Option ℕ). labels_by ls ms o y) p.0
-number_of_pair ls ms pairs numbers told x y (Some n) t p a b =
+-- the number of the pair that two numbers are given, where no number is given none
+pub number_of_pair : (given : ValuePair → Option (List Outcome × List Outcome)) (pairs : Pairs) (numbers : List ValuePair) (told : List (Option ℕ)) (x y both : Option ℕ) → ((z : Option ℕ) → given (record { first = None; second = z }) ≡ None) → AreTold given pairs numbers told → IsPairAt numbers x y both → IsNumberOf pairs (retold told both) (given (record { first = x; second = y }))
+number_of_pair given pairs numbers told x y None none t p = ap (λ (o : Option ℕ). given (record { first = o; second = y })) p.0 ∙ none y
+number_of_pair given pairs numbers told x y (Some n) none t p =
     let at = t n (record { first = x; second = y }) p.0 in
-    subst (λ o. IsNumberOf pairs o (labels_by ls ms x y)) (sym (told_there told n at.number at.there)) (at.is a b)
+    subst (λ o. IsNumberOf pairs o (given (record { first = x; second = y }))) (sym (told_there told n at.number at.there)) at.is
 
 -- ---- one more
 pushed_at : {A : Type 0} (xs : List A) (x : A) → slice_get (xs ++ x ∷ []) (length xs) ≡ Some x
 pushed_at [] x = refl
 pushed_at (y ∷ xs) x = pushed_at xs x
 
-told_before : (ls ms : List OutcomeList) (pairs : Pairs) (two : ValuePair) (told more : List (Option ℕ)) (n : ℕ) → IsToldAt ls ms pairs two told n → IsToldAt ls ms pairs two (told ++ more) n
-told_before ls ms pairs two told more n t = record { number = t.number; there = get_before told more n t.number t.there; is = t.is }
+told_before : (pairs : Pairs) (given : Option (List Outcome × List Outcome)) (told more : List (Option ℕ)) (n : ℕ) → IsToldAt pairs given told n → IsToldAt pairs given (told ++ more) n
+told_before pairs given told more n t = record { number = t.number; there = get_before told more n t.number t.there; is = t.is }
 
-pub told_more : (ls ms : List OutcomeList) (old new : Pairs) (numbers : List ValuePair) (two : ValuePair) (told : List (Option ℕ)) (o : Option ℕ) → Extends old new → length told ≡ length numbers → AreTold ls ms old numbers told → IsToldFor ls ms new two o → AreTold ls ms new (numbers ++ two ∷ []) (told ++ o ∷ [])
-told_more ls ms old new numbers two told o g l t is n x e =
+pub told_more : (given : ValuePair → Option (List Outcome × List Outcome)) (old new : Pairs) (numbers : List ValuePair) (two : ValuePair) (told : List (Option ℕ)) (o : Option ℕ) → Extends old new → length told ≡ length numbers → AreTold given old numbers told → IsNumberOf new o (given two) → AreTold given new (numbers ++ two ∷ []) (told ++ o ∷ [])
+told_more given old new numbers two told o g l t is n x e =
     elim (last_or_before numbers two x n e) [
-      | inl q ↦ let at = t n x q in told_before ls ms new x told (o ∷ []) n (record { number = at.number; there = at.there; is = still_told ls ms old new g x at.number at.is })
-      | inr q ↦ record { number = o; there = (rw (q.0 ∙ sym l) (pushed_at told o)); is = subst (λ y. IsToldFor ls ms new y o) q.1 is }
+      | inl q ↦ let at = t n x q in told_before new (given x) told (o ∷ []) n (record { number = at.number; there = at.there; is = still_number old new g at.number (given x) at.is })
+      | inr q ↦ record { number = o; there = (rw (q.0 ∙ sym l) (pushed_at told o)); is = subst (λ y. IsNumberOf new o (given y)) q.1 is }
     ]
 
 pub longer : {A B : Type 0} (xs : List A) (x : A) (ys : List B) (y : B) → length ys ≡ length xs → length (ys ++ y ∷ []) ≡ length (xs ++ x ∷ [])

@@ -2,3 +2,4 @@ pub mod Networks
 pub mod Slots
 pub mod Walkable
 pub mod Rows
+pub mod Classes

@@ -43,23 +43,15 @@ HasOutcomes labels (Some n) = outcomes_at labels n ≢ []
 abbrev pub HaveOutcomes : Functions → LabelNumbers → Type 0
 HaveOutcomes fs numbers = (h : ℕ) → h < 2 ^ 112 → HasOutcomes numbers.labels.items (value_at fs numbers.function h)
 
--- this label stands at the number; none does where there is no number or no outcome
-abbrev pub IsLabelAt : List OutcomeList → Option ℕ → Option (List Outcome) → Type 0
-IsLabelAt labels number None = HasOutcomes labels number → label_at labels number ≡ None
-IsLabelAt labels number (Some l) = label_at labels number ≡ Some l
-
--- the number among the pairs of the two labels that the numbers stand for, where they differ
-abbrev pub IsToldFor : List OutcomeList → List OutcomeList → List (List Outcome × List Outcome) → ValuePair → Option ℕ → Type 0
-IsToldFor old new pairs numbers told = HasOutcomes old numbers.first → HasOutcomes new numbers.second → IsNumberOf pairs told (labels_by old new numbers.first numbers.second)
-
--- at the position of two numbers stands that number
-pub record IsToldAt (old new : List OutcomeList) (pairs : List (List Outcome × List Outcome)) (numbers : ValuePair) (told : List (Option ℕ)) (position : ℕ) : Type 0 where
+-- at the position of two numbers stands the number among the pairs of the pair that is given, and none where none is
+pub record IsToldAt (pairs : List (List Outcome × List Outcome)) (given : Option (List Outcome × List Outcome)) (told : List (Option ℕ)) (position : ℕ) : Type 0 where
   pub number : Option ℕ
   pub there : slice_get told position ≡ Some number
-  pub is : IsToldFor old new pairs numbers number
+  pub is : IsNumberOf pairs number given
 
-abbrev pub AreTold : List OutcomeList → List OutcomeList → List (List Outcome × List Outcome) → List ValuePair → List (Option ℕ) → Type 0
-AreTold old new pairs numbers told = (n : ℕ) (two : ValuePair) → slice_get numbers n ≡ Some two → IsToldAt old new pairs two told n
+-- so it is for each two numbers
+abbrev pub AreTold : (ValuePair → Option (List Outcome × List Outcome)) → List (List Outcome × List Outcome) → List ValuePair → List (Option ℕ) → Type 0
+AreTold given pairs numbers told = (n : ℕ) (two : ValuePair) → slice_get numbers n ≡ Some two → IsToldAt pairs (given two) told n
 
 -- a header outside the set has the same label in both worlds
 abbrev pub AreAlikeOutside : World → World → ℕ → Place → Functions → ℕ → Type 0

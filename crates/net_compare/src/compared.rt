@@ -2,6 +2,7 @@
 
 ghost use Rattle.std.specs.Prelude.{◌≤◌, ◌<◌, ◌^◌, length};
 
+use crate::classes::Classes;
 use crate::ingress::pairs_at;
 use crate::pairs::no_pairs;
 use cube_diagram::Diagrams;
@@ -18,6 +19,7 @@ pub(crate) struct Compared<'a> {
     pub(crate) old: &'a Net<'a>,
     pub(crate) new: &'a Net<'a>,
     pub(crate) reach: &'a Reach<'a>,
+    pub(crate) classes: &'a Classes,
     pub(crate) ingress: &'a [Place],
     pub(crate) ttl: u8,
     pub(crate) ghost least: { 1 ≤ ttl },

@@ -13,6 +13,7 @@ ghost use Rattle.net_types.specs.World.{same_place};
 ghost use Rattle.net_compare.specs.Networks.{world};
 ghost use Rattle.net_compare.specs.Walkable.{AreWalkable, gives_of};
 
+use crate::classes::Classes;
 use crate::compared::Compared;
 use crate::slots::Slots;
 use crate::source::Ingresses;
@@ -187,10 +188,12 @@ fn sections_by<G: Gate + Sync, R: Threads + Wait + Sync>(
         scope,
     };
     let reach = Reach::of(alloc, &mut table, &old, &new)?;
+    let classes = Classes::new(alloc);
     let compared = Compared {
         old: &old,
         new: &new,
         reach: &reach,
+        classes: &classes,
         ingress,
         ttl,
     };

@@ -59,6 +59,6 @@ fn pairs_on(
     let ttl = compared.ttl;
     let before = label_numbers(alloc, table, compared.old, place, domain, ttl)?;
     let after = label_numbers(alloc, table, compared.new, place, domain, ttl)?;
-    let given = pairs_given(alloc, table, &before, &after)?;
+    let given = pairs_given(alloc, table, compared.classes, &before, &after)?;
     Ok(given)
 }

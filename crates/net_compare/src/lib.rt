@@ -6,6 +6,7 @@
 //! header its two labels where they differ.
 #![tactic(auto)]
 
+mod classes;
 mod compared;
 mod comparison;
 mod ingress;

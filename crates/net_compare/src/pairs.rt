@@ -1,19 +1,21 @@
 //! From the labels of all headers in two networks, as numbers, to the pairs of those that differ.
 
-ghost use Rattle.std.specs.Prelude.{◌≡◌, ◌<◌, ◌^◌, ℕ, Option, None, IfOk, OnOk, slice_get};
+ghost use Rattle.std.specs.Prelude.{◌≡◌, ◌<◌, ◌^◌, ℕ, Option, None, IfOk, OnOk};
 ghost use Rattle.std.specs.Option.{option_copied};
 ghost use Rattle.hdr_bits.specs.Lists.{Extends};
 ghost use Rattle.cube_diagram.specs.Functions.{Keeps, count_of, value_at};
 ghost use Rattle.net_types.specs.Report.{labels_if_other};
 ghost use Rattle.pair_rows.specs.Pairs.{Pair, IsNumberOf};
 ghost use Rattle.pair_rows.specs.Functions.{IsFunctionOf};
-ghost use Rattle.net_compare.specs.Rows.{HaveOutcomes, AreTold, IsToldFor, IsLabelAt, labels_at};
+ghost use Rattle.net_compare.specs.Rows.{HaveOutcomes, AreTold, labels_at};
+ghost use Rattle.net_compare.specs.Classes.{AreOfStore, IsClassOf, IsOfStore, differing, differing_at};
 
+use crate::classes::{Classed, Classes, classed_at};
 use cube_diagram::{Diagrams, ValuePair};
 use indexmap::{IndexMap, IndexSet};
-use net_types::{Label, NoMemory};
+use net_types::NoMemory;
 use pair_rows::{LabelPairs, PairFunction};
-use set_walk::{LabelNumbers, OutcomeList};
+use set_walk::LabelNumbers;
 use std::alloc::Global;
 
 /// The function that gives a header the two labels that its numbers stand for, where these differ, and nothing where they
@@ -21,6 +23,7 @@ use std::alloc::Global;
 pub(crate) fn pairs_given(
     alloc: Global,
     table: &mut Diagrams,
+    classes: &Classes,
     old: &LabelNumbers,
     new: &LabelNumbers,
 ) -> Result<PairFunction, NoMemory>
@@ -34,10 +37,13 @@ pub(crate) fn pairs_given(
     let mut numbers = IndexSet::new(alloc);
     let mut pairs = LabelPairs::new(alloc);
     let both = table.paired(alloc, old.function, new.function, &mut numbers)?;
+    let before = classes.classed_all(alloc, &old.labels)?;
+    let after = classes.classed_all(alloc, &new.labels)?;
     let told = pairs_of(
         alloc,
-        &old.labels,
-        &new.labels,
+        classes,
+        &before,
+        &after,
         numbers.as_slice(),
         &mut pairs,
     )?;
@@ -83,55 +89,63 @@ pub(crate) fn no_pairs(alloc: Global) -> Result<PairFunction, NoMemory>
 // For each two numbers of labels the number of the pair of labels, where these differ.
 fn pairs_of(
     alloc: Global,
-    old: &[OutcomeList],
-    new: &[OutcomeList],
+    classes: &Classes,
+    old: &[Option<Classed>],
+    new: &[Option<Classed>],
     numbers: &[ValuePair],
     pairs: &mut LabelPairs,
 ) -> Result<Vec<Option<u32>>, NoMemory>
-    ensures told { IfOk result (λ told. AreTold old.now new.now pairs.new numbers.now told.items) }
+    requires old { AreOfStore classes.now.store old.now }
+    requires new { AreOfStore classes.now.store new.now }
+    ensures told { IfOk result (λ told. AreTold (differing_at old.now new.now) pairs.new numbers.now told.items) }
 {
     let mut told = Vec::with_capacity(alloc, numbers.len())?;
     for two in numbers {
-        let number = pair_of(alloc, old, new, *two, pairs)?;
+        let before = classed_at(old, two.first);
+        let after = classed_at(new, two.second);
+        let number = pair_of(alloc, classes, before, after, pairs)?;
         told.push(number)?;
     }
     Ok(told)
 }
 
+// The number of the pair of these labels, where both are there and differ.
 fn pair_of(
     alloc: Global,
-    old: &[OutcomeList],
-    new: &[OutcomeList],
-    numbers: ValuePair,
+    classes: &Classes,
+    old: Option<&Classed>,
+    new: Option<&Classed>,
     pairs: &mut LabelPairs,
 ) -> Result<Option<u32>, NoMemory>
-    ensures told { IfOk result (IsToldFor old.now new.now pairs.new numbers) }
+    requires old { IsOfStore classes.now.store (option_copied old) }
+    requires new { IsOfStore classes.now.store (option_copied new) }
+    ensures number { IfOk result (λ r. IsNumberOf pairs.new r (differing (option_copied old.entry) (option_copied new.entry))) }
     ensures extends { OnOk result (Extends pairs.old pairs.new) }
 {
-    let Some(before) = label_at(alloc, old, numbers.first)? else {
+    let (Some(old), Some(new)) = (old, new) else {
         return Ok(None);
     };
-    let Some(after) = label_at(alloc, new, numbers.second)? else {
-        return Ok(None);
-    };
-    let number = number_of(alloc, &before, &after, pairs)?;
+    let number = number_of(alloc, classes, old, new, pairs)?;
     Ok(number)
 }
 
 // The number of the pair of these labels, if they differ.
 fn number_of(
     alloc: Global,
-    old: &Label,
-    new: &Label,
+    classes: &Classes,
+    old: &Classed,
+    new: &Classed,
     pairs: &mut LabelPairs,
 ) -> Result<Option<u32>, NoMemory>
-    ensures number { IfOk result (λ r. IsNumberOf pairs.new r (labels_if_other old.now new.now)) }
+    requires old { IsClassOf classes.now.store old.now.label old.now.class }
+    requires new { IsClassOf classes.now.store new.now.label new.now.class }
+    ensures number { IfOk result (λ r. IsNumberOf pairs.new r (labels_if_other old.now.label new.now.label)) }
     ensures extends { OnOk result (Extends pairs.old pairs.new) }
 {
-    if old.same(new) {
+    if classes.same(old, new) {
         return Ok(None);
     }
-    let position = pairs.number_of(alloc, old, new)?;
+    let position = pairs.number_of(alloc, &old.label, &new.label)?;
     let number = short(position)?;
     Ok(Some(number))
 }
@@ -141,33 +155,4 @@ fn short(position: usize) -> Result<u32, NoMemory>
     ensures { IfOk result (λ number. number ≡ position) }
 {
     u32::try_from(position).map_err(|_| NoMemory)
-}
-
-// The label that stands at the number, if an outcome stands there.
-fn label_at(
-    alloc: Global,
-    labels: &[OutcomeList],
-    number: Option<u32>,
-) -> Result<Option<Label>, NoMemory>
-    ensures { IfOk result (IsLabelAt labels.now number) }
-{
-    let Some(number) = number else {
-        return Ok(None);
-    };
-    let Some(list) = list_at(labels, number) else {
-        return Ok(None);
-    };
-    let outcomes = list.outcomes.as_slice();
-    if outcomes.is_empty() {
-        return Ok(None);
-    }
-    let outcomes = outcomes.to_vec(alloc)?;
-    let label = Label::of(outcomes)?;
-    Ok(Some(label))
-}
-
-fn list_at(labels: &[OutcomeList], number: u32) -> Option<&OutcomeList>
-    ensures { option_copied result ≡ slice_get labels.now number }
-{
-    labels.get(number as usize)
 }
