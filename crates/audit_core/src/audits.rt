@@ -1,6 +1,6 @@
 //! The audit of a folder: its lists with their findings, one behind the other.
-ghost use Rattle.std.specs.Prelude.{◌∷◌, [], IfOk, IfSome, map};
-ghost use Rattle.job_core.specs.Causes.{HasCause};
+ghost use Rattle.std.specs.Prelude.{◌∷◌, [], IfErr, IfOk, IfSome, map};
+ghost use Rattle.job_core.specs.Causes.{HasCause, NamesLast};
 ghost use Rattle.job_core.specs.Steps.{OrNoMemory};
 ghost use Rattle.audit_core.specs.Audits.{Audits, IsAudit, Appends};
 
@@ -20,6 +20,7 @@ pub(crate) fn audit_network<F: Files>(
 ) -> Result<Report, Stop>
     ensures job { IfSome (F.told files.old) (λ t. Audits t net.now result) }
     ensures cause { HasCause (F.faults files.old) (F.faults files.new) result }
+    ensures last { IfErr result (NamesLast (F.last files.new)) }
 {
     match read_folder(alloc, files, net) {
         Ok(devices) => audits(alloc, &devices),

@@ -11,7 +11,7 @@ use Rattle.job_core.specs.declared.report.Report.{Report}
 use Rattle.job_core.specs.declared.stop.Stop.{Stop}
 use Rattle.job_core.specs.declared.stop.Stop.TheVariants as stop
 use Rattle.job_core.specs.Accepted.{AcceptedFile, MayAlwaysStop}
-use Rattle.job_core.specs.Causes.{FaultRose, HasCause, WasRead}
+use Rattle.job_core.specs.Causes.{FaultRose, HasCause, NamesLast, WasRead}
 use Rattle.job_core.specs.Steps.{GivesBytes, OrNoMemory}
 use Rattle.job_core.proofs.AcceptedLemmas.{then_may_stop, file_may_stop, bytes_are}
 use Rattle.doctor_core.specs.Accepted.{AcceptedBy, AcceptedPaths, AcceptedTexts, IfAsked, IsAccepted}
@@ -208,6 +208,19 @@ was_read n (stop.HostnameTaken p q) h = tt
 pub read_cause : (n : ℕ) (r : Result Report Stop) → IfErr r WasRead → HasCause n n r
 read_cause n (Ok r) h = record { later = omega arith; fault = tt }
 read_cause n (Err s) h = record { later = omega arith; fault = was_read n s h }
+
+names_no_file : (last : Option (List ℕ)) (s : Stop) → WasRead s → NamesLast last s
+names_no_file last stop.NoMemory h = tt
+names_no_file last (stop.CannotRead p) h = absurd h
+names_no_file last (stop.NotFound p) h = tt
+names_no_file last (stop.TooLong p) h = tt
+names_no_file last (stop.TooManyFiles p) h = tt
+names_no_file last (stop.Refused p k w v) h = tt
+names_no_file last (stop.HostnameTaken p q) h = tt
+
+pub read_last : (last : Option (List ℕ)) (r : Result Report Stop) → IfErr r WasRead → IfErr r (NamesLast last)
+read_last last (Ok r) h = tt
+read_last last (Err s) h = names_no_file last s h
 
 pub none_is : {A : Type 0} (o : Option A) → ((x : A) → o ≡ Some x → ⊥) → o ≡ None
 none_is None h = refl

@@ -1,7 +1,7 @@
 //! The files that the words name, read in their order, and what is told of them.
 
 ghost use Rattle.std.specs.Prelude.{◌≡◌, IfErr, IfOk, IfSome, length, nat_lt, option_map};
-ghost use Rattle.job_core.specs.Causes.{HasCause, WasRead};
+ghost use Rattle.job_core.specs.Causes.{HasCause, NamesLast, WasRead};
 ghost use Rattle.job_core.specs.Steps.{OrNoMemory};
 ghost use Rattle.doctor_warnings.specs.Texts.{IsText};
 ghost use Rattle.doctor_core.specs.Job.{IsLook, IsTold, IsWritten, Looks, LooksBehind, LooksOver, LooksWith, with_links};
@@ -19,6 +19,7 @@ use std::alloc::Global;
 pub(crate) fn look<F: Files>(alloc: Global, files: &mut F, asked: &Asked) -> Result<Report, Stop>
     ensures job { IfSome (F.told files.old) (λ t. Looks t (paths asked.now) result) }
     ensures cause { HasCause (F.faults files.old) (F.faults files.new) result }
+    ensures last { IfErr result (NamesLast (F.last files.new)) }
 {
     match read_texts(alloc, files, asked.old) {
         Ok(old) => look_over(alloc, files, asked, old),
@@ -35,6 +36,7 @@ fn look_over<F: Files>(
 ) -> Result<Report, Stop>
     ensures job { IfSome (F.told files.old) (λ t. LooksOver (paths asked.now).new t (paths asked.now) old result) }
     ensures cause { HasCause (F.faults files.old) (F.faults files.new) result }
+    ensures last { IfErr result (NamesLast (F.last files.new)) }
 {
     match asked.new {
         None => look_with(alloc, files, asked, old, None),
@@ -52,6 +54,7 @@ fn look_between<F: Files>(
 ) -> Result<Report, Stop>
     ensures job { IfSome (F.told files.old) (λ t. LooksOver (Some path.now) t (paths asked.now) old result) }
     ensures cause { HasCause (F.faults files.old) (F.faults files.new) result }
+    ensures last { IfErr result (NamesLast (F.last files.new)) }
 {
     match read_texts(alloc, files, path) {
         Ok(new) => look_with(alloc, files, asked, old, Some(new)),
@@ -69,6 +72,7 @@ fn look_with<F: Files>(
 ) -> Result<Report, Stop>
     ensures job { IfSome (F.told files.old) (λ t. LooksWith t (paths asked.now) old new result) }
     ensures cause { HasCause (F.faults files.old) (F.faults files.new) result }
+    ensures last { IfErr result (NamesLast (F.last files.new)) }
 {
     match read_text(alloc, files, asked.links) {
         Ok(links) => {
@@ -96,6 +100,7 @@ fn look_by<F: Files>(
 ) -> Result<Report, Stop>
     ensures job { IfSome (F.told files.old) (λ t. LooksBehind (option_map (λ p. p.now) new_links.entry) t subject result) }
     ensures cause { HasCause (F.faults files.old) (F.faults files.new) result }
+    ensures last { IfErr result (NamesLast (F.last files.new)) }
 {
     match new_links {
         None => report_of(alloc, subject),
@@ -112,6 +117,7 @@ fn look_behind<F: Files>(
 ) -> Result<Report, Stop>
     ensures job { IfSome (F.told files.old) (λ t. LooksBehind (Some path.now) t subject result) }
     ensures cause { HasCause (F.faults files.old) (F.faults files.new) result }
+    ensures last { IfErr result (NamesLast (F.last files.new)) }
 {
     match read_text(alloc, files, path) {
         Ok(new_links) => report_of(alloc, with_links(subject, new_links)),

@@ -1,9 +1,9 @@
 //! The files of a folder that aren't read.
 
-ghost use Rattle.std.specs.Prelude.{◌≡◌, [], IfOk, IfSome, filter, map, string_bytes};
+ghost use Rattle.std.specs.Prelude.{◌≡◌, [], IfErr, IfOk, IfSome, filter, map, string_bytes};
 ghost use Rattle.topo_links.specs.Names.{add_names, sorted_names};
 ghost use Rattle.net_load.specs.Folder.{is_config_name};
-ghost use Rattle.job_core.specs.Causes.{HasCause};
+ghost use Rattle.job_core.specs.Causes.{HasCause, NamesLast};
 ghost use Rattle.doctor_core.specs.Folders.{is_hidden, is_other, GivesOthers};
 
 use job_core::Stop;
@@ -36,6 +36,7 @@ pub(crate) fn read_others<F: Files>(
 ) -> Result<List<Text>, Stop>
     ensures others { IfSome (F.told files.old) (λ t. GivesOthers t folder.now result) }
     ensures cause { HasCause (F.faults files.old) (F.faults files.new) result }
+    ensures last { IfErr result (NamesLast (F.last files.new)) }
     ensures same { F.told files.new ≡ F.told files.old }
 {
     match files.list(alloc, folder) {

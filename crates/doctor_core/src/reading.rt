@@ -4,7 +4,7 @@ ghost use Rattle.std.specs.Prelude.{◌≡◌, ◌≤◌, ◌+◌, IfErr, IfOk, 
 ghost use Rattle.net_io.specs.Files.{path_in};
 ghost use Rattle.net_io.specs.Limits.{file_limit};
 ghost use Rattle.net_load.specs.Limits.{folder_limit};
-ghost use Rattle.job_core.specs.Causes.{HasCause, WasRead};
+ghost use Rattle.job_core.specs.Causes.{HasCause, NamesLast, WasRead};
 ghost use Rattle.doctor_core.specs.Folders.{GivesAll, GivesFile, GivesFiles, GivesNames, GivesTextAt, GivesTexts, GivesWith, IsFile, IsFolder};
 ghost use Rattle.doctor_core.specs.Stops.{IsStopOf};
 
@@ -31,6 +31,7 @@ pub(crate) fn read_texts<F: Files>(
 ) -> Result<Texts, Stop>
     ensures texts { IfSome (F.told files.old) (λ t. GivesTexts t folder.now result) }
     ensures cause { HasCause (F.faults files.old) (F.faults files.new) result }
+    ensures last { IfErr result (NamesLast (F.last files.new)) }
     ensures same { F.told files.new ≡ F.told files.old }
 {
     match read_folder(alloc, files, folder) {
@@ -48,6 +49,7 @@ fn read_with<F: Files>(
 ) -> Result<Texts, Stop>
     ensures texts { IfSome (F.told files.old) (λ t. GivesWith t folder.now texts result) }
     ensures cause { HasCause (F.faults files.old) (F.faults files.new) result }
+    ensures last { IfErr result (NamesLast (F.last files.new)) }
     ensures same { F.told files.new ≡ F.told files.old }
 {
     match read_others(alloc, files, folder) {
@@ -76,6 +78,7 @@ fn folder_of(
 fn read_folder<F: Files>(alloc: Global, files: &mut F, folder: &str) -> Result<List<TextFile>, Stop>
     ensures texts { IfSome (F.told files.old) (λ t. GivesAll t folder.now result) }
     ensures cause { HasCause (F.faults files.old) (F.faults files.new) result }
+    ensures last { IfErr result (NamesLast (F.last files.new)) }
     ensures same { F.told files.new ≡ F.told files.old }
 {
     match read_names(alloc, files, folder) {
@@ -88,6 +91,7 @@ fn read_folder<F: Files>(alloc: Global, files: &mut F, folder: &str) -> Result<L
 fn read_names<F: Files>(alloc: Global, files: &mut F, folder: &str) -> Result<Vec<String>, Stop>
     ensures names { IfSome (F.told files.old) (λ t. GivesNames (λ names. map string_bytes names.items) t folder.now result) }
     ensures cause { HasCause (F.faults files.old) (F.faults files.new) result }
+    ensures last { IfErr result (NamesLast (F.last files.new)) }
     ensures same { F.told files.new ≡ F.told files.old }
 {
     match list_configs(alloc, files, folder) {
@@ -123,6 +127,7 @@ fn read_files<F: Files>(
 ) -> Result<List<TextFile>, Stop>
     ensures texts { IfSome (F.told files.old) (λ t. GivesFiles t folder.now (map string_bytes names.now) result) }
     ensures cause { HasCause (F.faults files.old) (F.faults files.new) result }
+    ensures last { IfErr result (NamesLast (F.last files.new)) }
     ensures same { F.told files.new ≡ F.told files.old }
 {
     let mut read = List::empty(alloc);
@@ -151,6 +156,7 @@ fn read_file<F: Files>(
     ensures file { IfSome (F.told files.old) (λ t. GivesFile t folder.now name.now sum result) }
     ensures limit { IfOk result (λ f. sum + length f.bytes ≤ folder_limit) }
     ensures cause { HasCause (F.faults files.old) (F.faults files.new) result }
+    ensures last { IfErr result (NamesLast (F.last files.new)) }
     ensures same { F.told files.new ≡ F.told files.old }
 {
     let path = path_of(alloc, folder, name)?;
@@ -199,6 +205,7 @@ fn path_of(alloc: Global, folder: &str, name: &str) -> Result<String, NoMemory>
 pub(crate) fn read_text<F: Files>(alloc: Global, files: &mut F, path: &str) -> Result<TextAt, Stop>
     ensures text { IfSome (F.told files.old) (λ t. GivesTextAt t path.now result) }
     ensures cause { HasCause (F.faults files.old) (F.faults files.new) result }
+    ensures last { IfErr result (NamesLast (F.last files.new)) }
     ensures same { F.told files.new ≡ F.told files.old }
 {
     match read_bytes(alloc, files, path) {

@@ -1,7 +1,8 @@
 //! The doctor as one call.
 
-ghost use Rattle.std.specs.Prelude.{◌≡◌, false, map, string_bytes};
-ghost use Rattle.job_core.specs.Endings.{Ends};
+ghost use Rattle.std.specs.Prelude.{◌≡◌, false, IfSome, map, string_bytes};
+ghost use Rattle.job_core.specs.Endings.{Ends, Said};
+ghost use Rattle.job_core.specs.Stops.{cannot_read_line};
 ghost use Rattle.doctor_core.specs.Accepted.{IsAccepted};
 ghost use Rattle.doctor_core.specs.Job.{Does};
 ghost use Rattle.doctor_core.specs.Usage.{usage_text};
@@ -27,6 +28,10 @@ pub fn doctor_run<F: Files, O: Sink, E: Sink>(
     // The words alone decide whether they are within the usage.
     ensures usage { result ≡ 2 → is_within (map string_bytes words.now) ≡ false }
     ensures refused { is_within (map string_bytes words.now) ≡ false → result ≡ 2 }
+
+    // The path in `cannot read PATH` is that of the call on the files that failed last, where that is told.
+    ensures cannot_read { result ≡ 4 → IfSome (F.last files.new) (λ path. Said (cannot_read_line path)
+        (record { before = E.taken err.old; now = E.taken err.new; faults_before = E.faults err.old; faults_now = E.faults err.new })) }
 
     // The run ends as one of the look that the words ask for.
     ensures ends { Ends (Does (map string_bytes words.now)) (IsAccepted (map string_bytes words.now)) usage_text result

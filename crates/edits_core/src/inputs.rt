@@ -6,7 +6,7 @@ ghost use Rattle.net_load.specs.Limits.{folder_limit};
 ghost use Rattle.net_load.specs.Numbering.{folder_names};
 ghost use Rattle.topo_links.specs.Table.{table_names};
 ghost use Rattle.edit_lines.specs.Built.{edits_limit};
-ghost use Rattle.job_core.specs.Causes.{HasCause, WasRead};
+ghost use Rattle.job_core.specs.Causes.{HasCause, NamesLast, WasRead};
 ghost use Rattle.edits_core.specs.Job.{AreShort, Edits, EditsOn, EditsOver, EditsWith, GivesShort, SaysEdits, asked_network};
 ghost use Rattle.edits_core.specs.Words.{paths};
 
@@ -32,6 +32,7 @@ pub(crate) fn edit_in_folder<F: Files>(
 ) -> Result<Report, Stop>
     ensures job { IfSome (F.told files.old) (λ t. Edits t (paths asked.now) result) }
     ensures cause { HasCause (F.faults files.old) (F.faults files.new) result }
+    ensures last { IfErr result (NamesLast (F.last files.new)) }
 {
     match read_folder(alloc, files, asked.net) {
         Ok(devices) => edit_over(alloc, files, List::new(devices), asked),
@@ -49,6 +50,7 @@ fn edit_over<F: Files>(
     requires { length (folder_names devices) ≤ folder_limit }
     ensures job { IfSome (F.told files.old) (λ t. EditsOver t devices (paths asked.now) result) }
     ensures cause { HasCause (F.faults files.old) (F.faults files.new) result }
+    ensures last { IfErr result (NamesLast (F.last files.new)) }
 {
     let both = devices.as_slice();
     match read_table(alloc, files, asked.links, Wires::Both, both, both) {
@@ -69,6 +71,7 @@ fn edit_with<F: Files>(
     requires table { length (table_names table.now) ≤ file_limit }
     ensures job { IfSome (F.told files.old) (λ t. EditsWith t devices table.now (paths asked.now) result) }
     ensures cause { HasCause (F.faults files.old) (F.faults files.new) result }
+    ensures last { IfErr result (NamesLast (F.last files.new)) }
 {
     match read_short(alloc, files, asked.edits) {
         Ok(bytes) => edit_numbered(alloc, devices, table, asked.edits, bytes.as_slice()),
@@ -81,6 +84,7 @@ fn read_short<F: Files>(alloc: Global, files: &mut F, path: &str) -> Result<List
     ensures bytes { IfSome (F.told files.old) (λ t. GivesShort t path.now result) }
     ensures limit { IfOk result (λ bytes. length bytes ≤ edits_limit) }
     ensures cause { HasCause (F.faults files.old) (F.faults files.new) result }
+    ensures last { IfErr result (NamesLast (F.last files.new)) }
 {
     match read_bytes(alloc, files, path) {
         Ok(bytes) => short(alloc, path, List::new(bytes)),

@@ -1,7 +1,8 @@
 //! The commands of the program, by their names.
 
-ghost use Rattle.std.specs.Prelude.{◌≡◌, false, map, string_bytes};
-ghost use Rattle.job_core.specs.Endings.{Ends};
+ghost use Rattle.std.specs.Prelude.{◌≡◌, false, IfSome, map, string_bytes};
+ghost use Rattle.job_core.specs.Endings.{Ends, Said};
+ghost use Rattle.job_core.specs.Stops.{cannot_read_line};
 ghost use Rattle.rollout_words.specs.Usage.{usage_text};
 ghost use Rattle.rollout_core.specs.Commands.{Does, IsAccepted, command_of, is_within};
 ghost use Rattle.rollout_core.specs.Names.{is_named};
@@ -36,6 +37,10 @@ pub fn tool<F: Files, O: Sink, E: Sink, G: Gate + Sync, R: Threads + Wait + Sync
     // The words alone decide whether they are within the usage.
     ensures usage { result ≡ 2 → is_within (map string_bytes words.now) ≡ false }
     ensures refused { is_within (map string_bytes words.now) ≡ false → result ≡ 2 }
+
+    // The path in `cannot read PATH` is that of the call on the files that failed last, where that is told.
+    ensures cannot_read { result ≡ 4 → IfSome (F.last files.new) (λ path. Said (cannot_read_line path)
+        (record { before = E.taken err.old; now = E.taken err.new; faults_before = E.faults err.old; faults_now = E.faults err.new })) }
 
     // The run ends as one of the command that the words name.
     ensures ends { Ends (Does (map string_bytes words.now)) (IsAccepted (map string_bytes words.now)) usage_text result

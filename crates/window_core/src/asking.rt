@@ -4,7 +4,7 @@ ghost use Rattle.std.specs.Prelude.{◌≡◌, ◌≤◌, IfErr, IfOk, IfSome, l
 ghost use Rattle.net_io.specs.Limits.{file_limit};
 ghost use Rattle.net_load.specs.Limits.{folder_limit};
 ghost use Rattle.net_load.specs.Numbering.{folder_names};
-ghost use Rattle.job_core.specs.Causes.{HasCause, WasRead};
+ghost use Rattle.job_core.specs.Causes.{HasCause, NamesLast, WasRead};
 ghost use Rattle.job_core.specs.Steps.{OrNoMemory};
 ghost use Rattle.window_core.specs.Job.{Asks, IsRollout, Rolls, RollsFrom, RollsWith, window_network};
 ghost use Rattle.window_core.specs.RolloutText.{fails};
@@ -38,6 +38,7 @@ pub(crate) fn roll<F: Files, R: Threads + Wait + Sync, G: Gate + Sync>(
 ) -> Result<Report, Stop>
     ensures job { IfSome (F.told files.old) (λ t. Rolls t (paths asked.now) result) }
     ensures cause { HasCause (F.faults files.old) (F.faults files.new) result }
+    ensures last { IfErr result (NamesLast (F.last files.new)) }
 {
     match read_base(by, alloc, files, asked) {
         Ok(base) => roll_from(by, alloc, files, base, asked),
@@ -56,6 +57,7 @@ fn roll_from<F: Files, R: Threads + Wait + Sync, G: Gate + Sync>(
     requires { HasFewNames base }
     ensures job { IfSome (F.told files.old) (λ t. RollsFrom t (paths asked.now) base result) }
     ensures cause { HasCause (F.faults files.old) (F.faults files.new) result }
+    ensures last { IfErr result (NamesLast (F.last files.new)) }
 {
     match read_text(alloc, files, asked.questions, &base) {
         Ok(text) => roll_with(by, alloc, files, base, text, asked),
@@ -76,6 +78,7 @@ fn roll_with<F: Files, R: Threads + Wait + Sync, G: Gate + Sync>(
     requires text { length text ≤ file_limit }
     ensures job { IfSome (F.told files.old) (λ t. RollsWith t (paths asked.now) base text result) }
     ensures cause { HasCause (F.faults files.old) (F.faults files.new) result }
+    ensures last { IfErr result (NamesLast (F.last files.new)) }
 {
     match read_window(alloc, files, asked.steps, &base) {
         Ok(changes) => ask(by, alloc, base, changes, asked.questions, text.as_slice()),

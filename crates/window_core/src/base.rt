@@ -1,11 +1,11 @@
 //! The network before all changes.
 
-ghost use Rattle.std.specs.Prelude.{◌≡◌, ◌≤◌, IfOk, IfSome, length};
+ghost use Rattle.std.specs.Prelude.{◌≡◌, ◌≤◌, IfErr, IfOk, IfSome, length};
 ghost use Rattle.net_io.specs.Limits.{file_limit};
 ghost use Rattle.net_load.specs.Limits.{folder_limit};
 ghost use Rattle.net_load.specs.Numbering.{folder_names};
 ghost use Rattle.topo_links.specs.Table.{table_names};
-ghost use Rattle.job_core.specs.Causes.{HasCause};
+ghost use Rattle.job_core.specs.Causes.{HasCause, NamesLast};
 ghost use Rattle.window_core.specs.Job.{GivesBase, WithTable};
 ghost use Rattle.window_core.specs.Words.{paths};
 ghost use Rattle.window_core.specs.Window.{HasFewNames};
@@ -37,6 +37,7 @@ pub(crate) fn read_base<F: Files, R: Threads + Sync, G>(
     ensures base { IfSome (F.told files.old) (λ t. GivesBase t (paths asked.now) result) }
     ensures names { IfOk result HasFewNames }
     ensures cause { HasCause (F.faults files.old) (F.faults files.new) result }
+    ensures last { IfErr result (NamesLast (F.last files.new)) }
     ensures same { F.told files.new ≡ F.told files.old }
 {
     match read_folder_by_workers(by.rt, by.count as usize, alloc, files, asked.net) {
@@ -56,6 +57,7 @@ fn with_table<F: Files>(
     ensures base { IfSome (F.told files.old) (λ t. WithTable t links.now devices.items result) }
     ensures names { IfOk result HasFewNames }
     ensures cause { HasCause (F.faults files.old) (F.faults files.new) result }
+    ensures last { IfErr result (NamesLast (F.last files.new)) }
     ensures same { F.told files.new ≡ F.told files.old }
 {
     match read_table(alloc, files, links, Wires::Both, &devices, &devices) {

@@ -4,7 +4,7 @@ ghost use Rattle.std.specs.Prelude.{◌≡◌, ◌≤◌, ◌+◌, IfErr, IfOk, 
 ghost use Rattle.net_io.specs.Limits.{file_limit};
 ghost use Rattle.net_load.specs.Limits.{folder_limit};
 ghost use Rattle.net_load.specs.Numbering.{config_names};
-ghost use Rattle.job_core.specs.Causes.{HasCause, WasRead};
+ghost use Rattle.job_core.specs.Causes.{HasCause, NamesLast, WasRead};
 ghost use Rattle.window_core.specs.Changes.{IsWithin, ReadsChange, SaysChange, WithTotal};
 
 use job_core::{Stop, read_bytes};
@@ -38,6 +38,7 @@ pub(crate) fn read_change<F: Files>(
     ensures names { IfOk result (λ x. sum + length (config_names x.device.config) ≤ x.total) }
     ensures total { IfOk result (λ x. x.total ≤ folder_limit) }
     ensures cause { HasCause (F.faults files.old) (F.faults files.new) result }
+    ensures last { IfErr result (NamesLast (F.last files.new)) }
     ensures same { F.told files.new ≡ F.told files.old }
 {
     match read_bytes(alloc, files, step.path.as_str()) {

@@ -3,7 +3,7 @@
 ghost use Rattle.std.specs.Prelude.{◌≡◌, ◌≤◌, ◌+◌, ◌∷◌, ◌++◌, [], IfErr, IfOk, IfSome, length};
 ghost use Rattle.net_load.specs.Limits.{folder_limit};
 ghost use Rattle.net_load.specs.Numbering.{config_names, folder_names};
-ghost use Rattle.job_core.specs.Causes.{HasCause, WasRead};
+ghost use Rattle.job_core.specs.Causes.{HasCause, NamesLast, WasRead};
 ghost use Rattle.window_core.specs.Changes.{GivesChange, GivesChanges, Judges};
 ghost use Rattle.window_core.specs.Job.{GivesWindow};
 ghost use Rattle.window_core.specs.Window.{Grows, IsWindow};
@@ -40,6 +40,7 @@ fn read_changes<F: Files>(
     ensures names { IfOk result (λ changes. length (folder_names changes) ≤ folder_limit) }
     ensures few { IfOk result (λ changes. length changes ≤ folder_limit) }
     ensures cause { HasCause (F.faults files.old) (F.faults files.new) result }
+    ensures last { IfErr result (NamesLast (F.last files.new)) }
     ensures same { F.told files.new ≡ F.told files.old }
 {
     let mut window = Window::new(alloc, base)?;
@@ -63,6 +64,7 @@ pub(crate) fn read_window<F: Files>(
     ensures names { IfOk result (λ changes. length (folder_names changes) ≤ folder_limit) }
     ensures few { IfOk result (λ changes. length changes ≤ folder_limit) }
     ensures cause { HasCause (F.faults files.old) (F.faults files.new) result }
+    ensures last { IfErr result (NamesLast (F.last files.new)) }
     ensures same { F.told files.new ≡ F.told files.old }
 {
     match read_lines(alloc, files, path) {
@@ -98,6 +100,7 @@ impl Window {
         ensures change { IfSome (F.told files.old) (λ t. Grows (GivesChange t path.now base.now self.changes self.total step.now) self.changes result) }
         ensures window { IfOk result (IsWindow base.now) }
         ensures cause { HasCause (F.faults files.old) (F.faults files.new) result }
+        ensures last { IfErr result (NamesLast (F.last files.new)) }
         ensures same { F.told files.new ≡ F.told files.old }
     {
         match read_change(alloc, files, path, self.total, step) {

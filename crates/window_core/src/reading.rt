@@ -2,7 +2,7 @@
 
 ghost use Rattle.std.specs.Prelude.{◌≡◌, ◌≤◌, IfErr, IfOk, IfSome, length};
 ghost use Rattle.net_io.specs.Limits.{file_limit};
-ghost use Rattle.job_core.specs.Causes.{HasCause, WasRead};
+ghost use Rattle.job_core.specs.Causes.{HasCause, NamesLast, WasRead};
 ghost use Rattle.window_core.specs.Job.{AsksText, GivesSteps, GivesText, SaysQuestions, SaysSteps, asked_network};
 ghost use Rattle.window_core.specs.Window.{HasFewNames};
 
@@ -26,6 +26,7 @@ pub(crate) fn read_text<F: Files>(
     ensures text { IfSome (F.told files.old) (λ t. GivesText t path.now base.now result) }
     ensures limit { IfOk result (λ bytes. length bytes ≤ file_limit) }
     ensures cause { HasCause (F.faults files.old) (F.faults files.new) result }
+    ensures last { IfErr result (NamesLast (F.last files.new)) }
     ensures same { F.told files.new ≡ F.told files.old }
 {
     match read_bytes(alloc, files, path) {
@@ -98,6 +99,7 @@ pub(crate) fn read_lines<F: Files>(
 ) -> Result<List<StepLine>, Stop>
     ensures steps { IfSome (F.told files.old) (λ t. GivesSteps t path.now result) }
     ensures cause { HasCause (F.faults files.old) (F.faults files.new) result }
+    ensures last { IfErr result (NamesLast (F.last files.new)) }
     ensures same { F.told files.new ≡ F.told files.old }
 {
     match read_bytes(alloc, files, path) {

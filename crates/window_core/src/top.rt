@@ -1,7 +1,8 @@
 //! The rollout as one call.
 
-ghost use Rattle.std.specs.Prelude.{◌≡◌, None, map, string_bytes};
-ghost use Rattle.job_core.specs.Endings.{Ends};
+ghost use Rattle.std.specs.Prelude.{◌≡◌, None, IfSome, map, string_bytes};
+ghost use Rattle.job_core.specs.Endings.{Ends, Said};
+ghost use Rattle.job_core.specs.Stops.{cannot_read_line};
 ghost use Rattle.rollout_words.specs.Usage.{usage_text};
 ghost use Rattle.window_core.specs.Accepted.{IsAccepted};
 ghost use Rattle.window_core.specs.Job.{Does};
@@ -35,6 +36,10 @@ pub fn rollout_run<F: Files, O: Sink, E: Sink, G: Gate + Sync, R: Threads + Wait
     // The words alone decide whether they are within the usage.
     ensures usage { result ≡ 2 → paths_of (map string_bytes words.now) ≡ None }
     ensures refused { paths_of (map string_bytes words.now) ≡ None → result ≡ 2 }
+
+    // The path in `cannot read PATH` is that of the call on the files that failed last, where that is told.
+    ensures cannot_read { result ≡ 4 → IfSome (F.last files.new) (λ path. Said (cannot_read_line path)
+        (record { before = E.taken err.old; now = E.taken err.new; faults_before = E.faults err.old; faults_now = E.faults err.new })) }
 
     // The run ends as one of the rollout that the words ask for.
     ensures ends { Ends (Does (map string_bytes words.now)) (IsAccepted (map string_bytes words.now)) usage_text result

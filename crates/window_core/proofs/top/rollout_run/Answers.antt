@@ -1,6 +1,6 @@
 use Rattle.std.proofs.Common.{◌≡◌, Some, map, string_bytes, ap, sym, ◌∙◌}
 use Rattle.std.specs.Prelude.{option_map}
-use Rattle.job_core.proofs.EndingLemmas.{ends}
+use Rattle.job_core.proofs.EndingLemmas.{ends, names_last}
 use Rattle.rollout_words.specs.Usage.{usage_text}
 use Rattle.window_core.specs.Accepted.{IsAccepted}
 use Rattle.window_core.specs.Job.{Does}
@@ -20,3 +20,10 @@ returns-clause-ends g c =
     (record { before = g.O.Sink.taken c.args.out.now; now = g.O.Sink.taken c.finish.new.out; faults_before = g.O.Sink.faults c.args.out.now; faults_now = g.O.Sink.faults c.finish.new.out })
     (record { before = g.E.Sink.taken c.args.err.now; now = g.E.Sink.taken c.finish.new.err; faults_before = g.E.Sink.faults c.args.err.now; faults_now = g.E.Sink.faults c.finish.new.err })
     done (does_paths words told p done asked c.roll-done.ensures.job) c.roll-done.ensures.cause (accepted_may_stop words) c.finish.ensures
+
+pub returns-clause-cannot_read : goal.returns-clause-cannot_read
+returns-clause-cannot_read g c four =
+    names_last c.roll-done.result c.finish.result (g.F.Files.last c.roll-done.new.files)
+    (record { before = g.O.Sink.taken c.args.out.now; now = g.O.Sink.taken c.finish.new.out; faults_before = g.O.Sink.faults c.args.out.now; faults_now = g.O.Sink.faults c.finish.new.out })
+    (record { before = g.E.Sink.taken c.args.err.now; now = g.E.Sink.taken c.finish.new.err; faults_before = g.E.Sink.faults c.args.err.now; faults_now = g.E.Sink.faults c.finish.new.err })
+    c.roll-done.ensures.last c.finish.ensures four
