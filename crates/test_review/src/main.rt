@@ -13,6 +13,7 @@ mod limits;
 mod meetings;
 mod memory;
 mod names;
+mod paths;
 mod reports;
 mod runs;
 mod system;
@@ -30,6 +31,7 @@ fn show_all<R: Threads + Wait + Sync>(rt: &HostRuntime, threads: &R) -> Result<(
     faults::show_faults(rt, threads)?;
     limits::show(rt, threads)?;
     hostile::show(rt, threads)?;
+    paths::show(rt, threads)?;
     comparisons::show_commands(rt, threads)?;
     meetings::show(rt, threads)?;
     show_parts(rt)
