@@ -1,4 +1,3 @@
-pub mod SameLines
 pub mod TextLemmas
 pub mod Answers
 pub mod Paired

@@ -5,7 +5,7 @@ use Rattle.net_types.specs.declared.network.Names.{Names}
 use Rattle.report_groups.specs.declared.types.Change.TheVariants.{Moves}
 use Rattle.report_groups.specs.declared.types.Entry.{Entry}
 use Rattle.view_core.specs.FieldWords.{words_text}
-use Rattle.view_core.specs.Groups.{headers_text, group_text}
+use Rattle.view_core.specs.Groups.{headers_text, group_words, group_text}
 
 front_cut : (words back : List ℕ) → take (length words) (words ++ back) ≡ words
 front_cut [] back = refl
@@ -29,9 +29,9 @@ words_between words line end start e s h =
 
 -- ---- a line of a group without outcomes
 
-tail_parts : (w : List ℕ) → w ++ codes ": " ++ [] ++ codes " -> " ++ [] ++ codes "\n" ≡ w ++ codes ":  -> \n"
+tail_parts : (w : List ℕ) → (w ++ codes ": " ++ [] ++ codes " -> " ++ []) ++ codes "\n" ≡ w ++ codes ":  -> \n"
 tail_parts w = simp (append_assoc, append-nil)
 
 pub group_line : (names : Names) (e : Entry) → e.change ≡ Moves → e.group.old ≡ [] → e.group.new ≡ [] → group_text names e ≡ codes "moves" ++ (words_text e.shown ++ codes ":  -> \n")
-unfolding group_text headers_text
+unfolding group_text group_words headers_text
 group_line names e m o n = rw (m, o, n) (ap (λ t. codes "moves" ++ t) (tail_parts (words_text e.shown)))

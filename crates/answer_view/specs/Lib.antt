@@ -1,7 +1,6 @@
 pub mod Asked
 pub mod AnswerText
 pub mod Said
-pub mod Differing
 pub mod Answered
 pub mod Packet
 pub mod ShownText

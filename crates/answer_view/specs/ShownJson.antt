@@ -4,26 +4,14 @@ use Rattle.std.specs.List.{join_by}
 use Rattle.hdr_bits.specs.declared.header.Header.{Header}
 use Rattle.net_types.specs.declared.question.Answer.{Answer}
 use Rattle.net_types.specs.declared.question.Answer.TheVariants.{Holds, Fails}
-use Rattle.report_text.specs.FieldText.{address_text}
-use Rattle.view_core.specs.Json.{string_member}
+use Rattle.view_core.specs.Json.{string_member, header_members}
 use Rattle.answer_view.specs.declared.groups.Group.{Group}
 use Rattle.answer_view.specs.declared.answered.Answered.{Answered}
 use Rattle.answer_view.specs.Answered.{group_of, group_name, groups_of, count_in}
 use Rattle.answer_view.specs.Packet.{packet_words}
 
--- the addresses and the protocol of a packet
-unfoldable pub address_members : Header → List ℕ
-address_members h =
-    string_member (codes "dst") (address_text h.dst)
-    ++ codes ", " ++ string_member (codes "src") (address_text h.src)
-    ++ codes ", \"proto\": " ++ decimal h.proto
-
--- its ports and its flags
-unfoldable pub port_members : Header → List ℕ
-port_members h = codes ", \"dport\": " ++ decimal h.dport ++ codes ", \"sport\": " ++ decimal h.sport ++ codes ", \"flags\": " ++ decimal h.flags
-
 unfoldable pub packet_json : Header → List ℕ
-packet_json h = codes "{" ++ address_members h ++ port_members h ++ codes ", " ++ string_member (codes "words") (packet_words h) ++ codes "}"
+packet_json h = codes "{" ++ header_members h ++ codes ", " ++ string_member (codes "words") (packet_words h) ++ codes "}"
 
 unfoldable pub fails_json : Header → List ℕ
 fails_json h = codes "{\"holds\": false, \"packet\": " ++ packet_json h ++ codes "}"

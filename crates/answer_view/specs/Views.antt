@@ -19,7 +19,7 @@ use Rattle.answer_view.specs.declared.words.Form.TheVariants as form
 use Rattle.answer_view.specs.Asked.{asked_in}
 use Rattle.answer_view.specs.AnswerText.{AreAnswers, answers_text}
 use Rattle.answer_view.specs.Said.{said_in}
-use Rattle.answer_view.specs.Differing.{same_lines}
+use Rattle.view_core.specs.Differing.{same_lines}
 use Rattle.answer_view.specs.Answered.{answered_from}
 use Rattle.answer_view.specs.ShownText.{view_text}
 use Rattle.answer_view.specs.ShownJson.{answers_json}

@@ -7,8 +7,8 @@ ghost use Rattle.answer_view.specs.Asked.{words_in, is_comment, asked_with, aske
 
 use net_text::{Line, Span, lines, part};
 use net_types::{NoMemory, Text};
+use report_text::append;
 use std::alloc::Global;
-use view_core::append;
 
 /// A question of a file. Whether a network has its places is not judged.
 #[derive(Drop)]

@@ -7,15 +7,15 @@ ghost use Rattle.answer_view.specs.ShownText.{name_text};
 ghost use Rattle.answer_view.specs.ShownCases.{failure_xml, verdict_xml, case_xml, fails_now, suite_front, suite_head, cases_xml};
 
 use crate::answered::Answered;
-use crate::escape::append_escaped;
 use crate::groups::{Group, group_name, group_of};
 use crate::packet::append_packet;
 use crate::printed::fails;
 use crate::text::append_name;
 use hdr_bits::Header;
 use net_types::{Answer, NoMemory};
+use report_text::{append, append_number};
 use std::alloc::Global;
-use view_core::{append, append_number};
+use view_core::append_escaped;
 
 // Each function adds a text at the end. Where memory runs out, a part of the text may stand there.
 

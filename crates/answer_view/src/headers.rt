@@ -4,9 +4,9 @@ ghost use Rattle.hdr_bits.specs.HeaderBits.{IsHeader};
 ghost use Rattle.ios_words.specs.Words.{address_of, number_of};
 ghost use Rattle.answer_view.specs.Said.{value_at, header_at};
 
-use crate::cuts::next;
 use hdr_bits::Header;
 use ios_words::{address, number};
+use view_core::split_word;
 
 /// The header that six fields say, each behind its name. Of the names the print is the judge.
 #[tactic(auto, unfolding(crate::specs::Said::header_at))]
@@ -35,8 +35,8 @@ pub(crate) fn header_at(text: &[u8]) -> Option<Header>
 fn address_at(text: &[u8]) -> Option<(u32, &[u8])>
     ensures { option_map (λ x. (x.0, x.1.now)) result ≡ value_at address_of text.now }
 {
-    let (_, rest) = next(text);
-    let (word, rest) = next(rest);
+    let (_, rest) = split_word(text);
+    let (word, rest) = split_word(rest);
     let found = address(word)?;
     Some((found, rest))
 }
@@ -47,8 +47,8 @@ fn number_at(text: &[u8], most: u32) -> Option<(u32, &[u8])>
     ensures value { option_map (λ x. (x.0, x.1.now)) result ≡ value_at (number_of 0 most) text.now }
     ensures below { IfSome result (λ x. x.0 ≤ most) }
 {
-    let (_, rest) = next(text);
-    let (word, rest) = next(rest);
+    let (_, rest) = split_word(text);
+    let (word, rest) = split_word(rest);
     let found = number(word, 0, most)?;
     Some((found, rest))
 }

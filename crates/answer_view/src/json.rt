@@ -1,18 +1,18 @@
 //! Answers as one document of JSON.
 ghost use Rattle.std.specs.Prelude.{◌≡◌, ◌++◌, codes, IfOk, OnOk};
 ghost use Rattle.std.specs.List.{join_by};
-ghost use Rattle.view_core.specs.Json.{string_member};
+ghost use Rattle.view_core.specs.Json.{string_member, header_members};
 ghost use Rattle.answer_view.specs.Packet.{packet_words};
-ghost use Rattle.answer_view.specs.ShownJson.{address_members, port_members, packet_json, fails_json, answer_json, before_json, question_members, answer_members, question_json, count_member, json_front, counts_json, answers_json};
+ghost use Rattle.answer_view.specs.ShownJson.{packet_json, fails_json, answer_json, before_json, question_members, answer_members, question_json, count_member, json_front, counts_json, answers_json};
 
 use crate::answered::Answered;
 use crate::groups::{Group, count_in, group_name, group_of, groups_of};
 use crate::packet::append_packet;
 use hdr_bits::Header;
 use net_types::{Answer, NoMemory};
-use report_text::address_bytes;
+use report_text::{append, append_number};
 use std::alloc::Global;
-use view_core::{append, append_member, append_number};
+use view_core::{append_header_members, append_member};
 
 // Each function adds a text at the end. Where memory runs out, a part of the text may stand there.
 
@@ -175,8 +175,7 @@ fn append_packet_object(alloc: Global, out: &mut Vec<u8>, header: &Header) -> Re
     ensures { OnOk result (out.new.items ≡ out.old.items ++ packet_json header.now) }
 {
     append(out, b"{")?;
-    append_addresses(alloc, out, header)?;
-    append_ports(out, header)?;
+    append_header_members(alloc, out, header)?;
     append(out, b", ")?;
     append_words(alloc, out, header)?;
     append(out, b"}")
@@ -188,27 +187,4 @@ fn append_words(alloc: Global, out: &mut Vec<u8>, header: &Header) -> Result<(),
     let mut words = Vec::new(alloc);
     append_packet(alloc, &mut words, header)?;
     append_member(out, b"words", &words)
-}
-
-#[tactic(auto, unfolding(crate::specs::ShownJson::address_members))]
-fn append_addresses(alloc: Global, out: &mut Vec<u8>, header: &Header) -> Result<(), NoMemory>
-    ensures { OnOk result (out.new.items ≡ out.old.items ++ address_members header.now) }
-{
-    append_member(out, b"dst", &address_bytes(alloc, header.dst)?)?;
-    append(out, b", ")?;
-    append_member(out, b"src", &address_bytes(alloc, header.src)?)?;
-    append(out, b", \"proto\": ")?;
-    append_number(out, header.proto)
-}
-
-#[tactic(auto, unfolding(crate::specs::ShownJson::port_members))]
-fn append_ports(out: &mut Vec<u8>, header: &Header) -> Result<(), NoMemory>
-    ensures { OnOk result (out.new.items ≡ out.old.items ++ port_members header.now) }
-{
-    append(out, b", \"dport\": ")?;
-    append_number(out, header.dport)?;
-    append(out, b", \"sport\": ")?;
-    append_number(out, header.sport)?;
-    append(out, b", \"flags\": ")?;
-    append_number(out, header.flags)
 }

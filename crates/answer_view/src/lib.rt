@@ -7,9 +7,6 @@
 mod answered;
 mod asked;
 mod cases;
-mod cuts;
-mod differing;
-mod escape;
 mod groups;
 mod headers;
 mod json;

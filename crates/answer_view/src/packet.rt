@@ -7,8 +7,9 @@ ghost use Rattle.answer_view.specs.Packet.{values_from, has_ports, has_source, p
 use hdr_bits::Header;
 use net_types::{List, Names, NoMemory};
 use report_groups::{Change, Entry, Flags, Group, Part, Pattern, Shown, Span, Values};
+use report_text::append;
 use std::alloc::Global;
-use view_core::{append, group_bytes};
+use view_core::group_bytes;
 
 const ICMP: u8 = 1;
 

@@ -4,9 +4,8 @@ ghost use Rattle.answer_view.specs.AnswerText.{answer_text, answers_from, answer
 
 use hdr_bits::Header;
 use net_types::{Answer, NoMemory};
-use report_text::header_bytes;
+use report_text::{append, append_number, header_bytes};
 use std::alloc::Global;
-use view_core::{append, append_number};
 
 /// The text of these answers.
 #[tactic(auto, unfolding(crate::specs::AnswerText::answers_text))]

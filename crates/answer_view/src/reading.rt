@@ -7,14 +7,13 @@ ghost use Rattle.answer_view.specs.AnswerText.{HasPacket};
 ghost use Rattle.answer_view.specs.Said.{said_in};
 ghost use Rattle.answer_view.specs.Views.{SaysAnswers, GivesAnswers, IsFault, IsCounted};
 
-use crate::differing::first_difference;
 use crate::printed::answers_bytes;
-use crate::said::{answers_in, lines_of};
+use crate::said::answers_in;
 use job_core::Stop;
 use net_io::Files;
 use net_types::{Answer, NoMemory, Text};
 use std::alloc::Global;
-use view_core::read_report_file;
+use view_core::{first_difference, lines_of, read_report_file};
 
 /// The answers to so many questions that a file has; or why it has none.
 pub(crate) fn read_answers<F: Files>(

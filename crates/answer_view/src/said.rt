@@ -1,25 +1,13 @@
 //! The answers that the lines of a text say.
 ghost use Rattle.std.specs.Prelude.{◌≡◌, ◌++◌, map, IfOk, IfSome, OnOk};
 ghost use Rattle.std.specs.List.{flat_map, AllByRecursion};
-ghost use Rattle.view_core.specs.Names.{text_lines};
 ghost use Rattle.answer_view.specs.AnswerText.{HasPacket};
 ghost use Rattle.answer_view.specs.Said.{said_by, said_of, said_at};
 
-use crate::cuts::next;
 use crate::headers::header_at;
 use net_types::{Answer, NoMemory};
 use std::alloc::Global;
-
-/// The lines of a text.
-pub(crate) fn lines_of(alloc: Global, bytes: &[u8]) -> Result<Vec<&[u8]>, NoMemory>
-    ensures { IfOk result (λ lines. map (λ line. line.now) lines.items ≡ text_lines bytes.now) }
-{
-    let mut lines = Vec::new(alloc);
-    for line in bytes.split(|b| *b == b'\n') {
-        lines.push(line)?;
-    }
-    Ok(lines)
-}
+use view_core::split_word;
 
 /// What the lines say, in their order. Of what stands beside that the print of all answers is the judge.
 pub(crate) fn answers_in(alloc: Global, lines: &[&[u8]]) -> Result<Vec<Answer>, NoMemory>
@@ -51,8 +39,8 @@ fn said_of(line: &[u8]) -> Option<Answer>
     ensures value { result ≡ said_of line.now }
     ensures fits { IfSome result HasPacket }
 {
-    let (_, rest) = next(line);
-    let (word, rest) = next(rest);
+    let (_, rest) = split_word(line);
+    let (word, rest) = split_word(rest);
     said_by(word, rest)
 }
 

@@ -8,8 +8,9 @@ use crate::answered::Answered;
 use crate::groups::{group_name, group_of};
 use crate::packet::append_packet;
 use net_types::{Answer, NoMemory};
+use report_text::{append, append_number};
 use std::alloc::Global;
-use view_core::{append, append_number, append_quoted};
+use view_core::append_quoted;
 
 // Each function adds a text at the end. Where memory runs out, a part of the text may stand there.
 

@@ -7,8 +7,8 @@ use crate::answered::Answered;
 use crate::groups::{Group, count_in, group_name, groups_of, is_in, is_listed};
 use crate::packet::append_packet;
 use net_types::{Answer, NoMemory};
+use report_text::{append, append_number};
 use std::alloc::Global;
-use view_core::{append, append_number};
 
 // Each function adds a text at the end. Where memory runs out, a part of the text may stand there.
 

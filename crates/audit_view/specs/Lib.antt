@@ -1,7 +1,6 @@
 pub mod Lists
 pub mod Said
 pub mod Audited
-pub mod Differing
 pub mod Shown
 pub mod ShownText
 pub mod ShownJson

@@ -20,7 +20,7 @@ use Rattle.audit_view.specs.declared.words.Manner.{Manner}
 use Rattle.audit_view.specs.Lists.{lists_of}
 use Rattle.audit_view.specs.Said.{said_in}
 use Rattle.audit_view.specs.Audited.{with_findings, audit_print, first_unknown}
-use Rattle.audit_view.specs.Differing.{same_lines}
+use Rattle.view_core.specs.Differing.{same_lines}
 use Rattle.audit_view.specs.ShownText.{view_text}
 use Rattle.audit_view.specs.ShownJson.{audit_json}
 use Rattle.audit_view.specs.ShownTable.{audit_table}

@@ -13,8 +13,9 @@ use crate::printed::kind_name;
 use crate::text::append_line;
 use crate::unknown::entry_of;
 use net_types::{NoMemory, Text};
+use report_text::{append, append_number};
 use std::alloc::Global;
-use view_core::{append, append_number, append_quoted};
+use view_core::append_quoted;
 
 // The first line.
 const HEAD: &[u8] = b"file,list,line,entry,kind,closing,by line,by entry,rows,headers\n";

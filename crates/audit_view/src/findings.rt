@@ -1,6 +1,5 @@
 //! The findings that the lines of an audit say, read from the last line to the first.
 ghost use Rattle.std.specs.Prelude.{◌≡◌, [], map, reverse, IfOk};
-ghost use Rattle.view_core.specs.Names.{text_lines};
 ghost use Rattle.audit_view.specs.Said.{said_of, with_line, nothing, behind, said_in};
 
 use crate::said::{Kind, Said, said_of};
@@ -44,17 +43,6 @@ pub(crate) fn findings_in(alloc: Global, lines: &[&[u8]]) -> Result<Vec<List<Fin
 {
     let behind = read_back(alloc, lines)?;
     Ok(behind.lists.into_vec())
-}
-
-/// The lines of a text.
-pub(crate) fn lines_of(alloc: Global, bytes: &[u8]) -> Result<Vec<&[u8]>, NoMemory>
-    ensures { IfOk result (λ lines. map (λ line. line.now) lines.items ≡ text_lines bytes.now) }
-{
-    let mut lines = Vec::new(alloc);
-    for line in bytes.split(|b| *b == b'\n') {
-        lines.push(line)?;
-    }
-    Ok(lines)
 }
 
 fn read_back(alloc: Global, lines: &[&[u8]]) -> Result<Behind, NoMemory>

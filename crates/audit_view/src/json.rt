@@ -13,8 +13,9 @@ use crate::printed::kind_name;
 use crate::text::append_line;
 use crate::unknown::entry_of;
 use net_types::{NoMemory, Text};
+use report_text::{append, append_number};
 use std::alloc::Global;
-use view_core::{append, append_member, append_number, append_string};
+use view_core::{append_member, append_string};
 
 /// The document: exactly the lists of the folder with their findings.
 #[tactic(auto, unfolding(crate::specs::ShownJson::audit_json))]

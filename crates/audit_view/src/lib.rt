@@ -7,8 +7,6 @@
 
 mod audited;
 mod csv;
-mod cuts;
-mod differing;
 mod findings;
 mod folder;
 mod groups;

@@ -8,8 +8,8 @@ use crate::findings::{Finding, Taken};
 use crate::lists::FolderList;
 use crate::said::Kind;
 use net_types::{NoMemory, Text};
+use report_text::{append, append_number};
 use std::alloc::Global;
-use view_core::{append, append_number};
 
 /// The text of an audit with these findings.
 #[tactic(auto, unfolding(crate::specs::Audited::audit_print))]

@@ -2,8 +2,8 @@
 ghost use Rattle.std.specs.Prelude.{◌≡◌};
 ghost use Rattle.audit_view.specs.Said.{kind_of, entry_said, by_said, said_of};
 
-use crate::cuts::next;
 use ios_words::number;
+use view_core::split_word;
 
 /// What is wrong with an entry.
 #[derive(Clone, Copy, Debug, PartialEq, Eq)]
@@ -36,7 +36,7 @@ const LAST_SEQUENCE: u32 = 2_147_483_647;
 pub(crate) fn said_of(line: &[u8]) -> Said
     ensures { result ≡ said_of line.now }
 {
-    let (first, rest) = next(line);
+    let (first, rest) = split_word(line);
     if first == b"list".as_slice() {
         Said::List
     } else if first == b"dst".as_slice() {
@@ -53,7 +53,7 @@ pub(crate) fn said_of(line: &[u8]) -> Said
 fn by_said(rest: &[u8]) -> Said
     ensures { result ≡ by_said rest.now }
 {
-    let (word, _) = next(rest);
+    let (word, _) = split_word(rest);
     match number(word, 1, LAST_SEQUENCE) {
         Some(sequence) => Said::By { sequence },
         None => Said::Other,
@@ -63,7 +63,7 @@ fn by_said(rest: &[u8]) -> Said
 fn entry_said(rest: &[u8]) -> Said
     ensures { result ≡ entry_said rest.now }
 {
-    let (word, kind) = next(rest);
+    let (word, kind) = split_word(rest);
     match number(word, 1, LAST_SEQUENCE) {
         Some(sequence) => Said::Entry {
             sequence,

@@ -10,8 +10,8 @@ use crate::lists::FolderList;
 use crate::printed::kind_name;
 use crate::unknown::entry_of;
 use net_types::{NoMemory, Text};
+use report_text::{append, append_number};
 use std::alloc::Global;
-use view_core::{append, append_number};
 
 // Each function adds a text at the end. Where memory runs out, a part of the text may stand there.
 

@@ -9,8 +9,7 @@ ghost use Rattle.audit_view.specs.Words.{is_asked};
 
 use crate::audited::{AuditedList, with_findings};
 use crate::csv::csv_bytes;
-use crate::differing::first_difference;
-use crate::findings::{findings_in, lines_of};
+use crate::findings::findings_in;
 use crate::folder::read_net;
 use crate::json::json_bytes;
 use crate::lists::FolderList;
@@ -23,7 +22,7 @@ use job_core::{Report, Stop, finish, refuse};
 use net_io::{Files, Sink};
 use net_types::{NoMemory, Text};
 use std::alloc::Global;
-use view_core::{Format, read_report_file};
+use view_core::{Format, first_difference, lines_of, read_report_file};
 use view_words::USAGE;
 
 /// Shows what an audit wrote, as the words ask, and answers the status: 0 where it was written, and else as every program of the

@@ -9,4 +9,4 @@ mod sides;
 mod text;
 
 pub use sides::shared;
-pub use text::sides_bytes;
+pub use text::{first_bytes, rest_bytes, sides_bytes};

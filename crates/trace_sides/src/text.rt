@@ -69,8 +69,13 @@ fn append_both(out: &mut Vec<u8>, text: &[u8]) -> Result<(), NoMemory>
     }
 }
 
+/// The first states of a trace, so many.
+///
+/// # Errors
+///
+/// There was no memory.
 #[tactic(auto, unfolding(crate::specs::Sides::first_text))]
-fn first_bytes(
+pub fn first_bytes(
     alloc: Global,
     names: &Names,
     count: usize,
@@ -85,8 +90,13 @@ fn first_bytes(
     Ok(text)
 }
 
+/// What a trace goes on with behind so many states: the further ones, and the outcome.
+///
+/// # Errors
+///
+/// There was no memory.
 #[tactic(auto, unfolding(crate::specs::Sides::rest_text))]
-fn rest_bytes(
+pub fn rest_bytes(
     alloc: Global,
     names: &Names,
     count: usize,

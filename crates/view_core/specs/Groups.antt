@@ -15,11 +15,15 @@ change_words Opens = codes "opens"
 change_words Moves = codes "moves"
 change_words Translated = codes "translated otherwise"
 
--- the headers of a group, and their outcomes in the two networks, up to the end of the line
+-- the headers of a group, and their outcomes in the two networks
 unfoldable pub headers_text : Names → Entry → List ℕ
 headers_text names e =
-    words_text e.shown ++ codes ": " ++ label_text names e.group.old ++ codes " -> " ++ label_text names e.group.new ++ codes "\n"
+    words_text e.shown ++ codes ": " ++ label_text names e.group.old ++ codes " -> " ++ label_text names e.group.new
 
--- the line of a group: what the change does to its packets, and its headers
+-- the words of a group: what the change does to its packets, and its headers
+unfoldable pub group_words : Names → Entry → List ℕ
+group_words names e = change_words e.change ++ headers_text names e
+
+-- its line
 unfoldable pub group_text : Names → Entry → List ℕ
-group_text names e = change_words e.change ++ headers_text names e
+group_text names e = group_words names e ++ codes "\n"

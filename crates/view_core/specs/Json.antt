@@ -90,6 +90,23 @@ row_text names row =
     ++ codes ", " ++ key (codes "new") ++ outcomes_text names row.new
     ++ codes "}"
 
+-- ---- headers
+
+-- the addresses and the protocol
+unfoldable pub address_members : Header → List ℕ
+address_members h =
+    string_member (codes "dst") (address_text h.dst)
+    ++ codes ", " ++ string_member (codes "src") (address_text h.src)
+    ++ codes ", \"proto\": " ++ decimal h.proto
+
+-- the ports and the flags
+unfoldable pub port_members : Header → List ℕ
+port_members h = codes ", \"dport\": " ++ decimal h.dport ++ codes ", \"sport\": " ++ decimal h.sport ++ codes ", \"flags\": " ++ decimal h.flags
+
+-- the fields of a header
+unfoldable pub header_members : Header → List ℕ
+header_members h = address_members h ++ port_members h
+
 -- ---- sections, and the document
 
 unfoldable pub section_text : Names → Section → List ℕ

@@ -1,4 +1,5 @@
 pub mod Names
+pub mod Differing
 pub mod Groups
 pub mod Words
 pub mod Reports
@@ -12,3 +13,4 @@ pub mod Style
 pub mod Script
 pub mod Markup
 pub mod Pages
+pub mod Ways

@@ -95,6 +95,9 @@ markup_text markup.CellTranslated =
 markup_text markup.CellOld = codes "</td><td data-of='Old'>"
 markup_text markup.CellNew = codes "</td><td data-of='New'>"
 markup_text markup.RowEnd = codes "</td></tr>\n"
+markup_text markup.Why = codes "<tr class='why'><td colspan='5'><details><summary>Why: "
+markup_text markup.WhyLines = codes "</summary><pre>"
+markup_text markup.WhyEnd = codes "</pre></details></td></tr>\n"
 markup_text markup.Break = codes "<wbr>"
 markup_text markup.TableEnd =
     codes "</tbody>\n"
@@ -133,9 +136,18 @@ markup_text markup.DeviceText = codes "'/><text x='"
 markup_text markup.DeviceTextDown = codes "' y='"
 markup_text markup.DeviceTextName = codes "'>"
 markup_text markup.DeviceEnd = codes "</text></g>\n"
+markup_text markup.Node = codes "<g class='"
+markup_text markup.OldWay = codes "was "
+markup_text markup.NewWay = codes "goes "
+markup_text markup.Parting = codes "parts "
+markup_text markup.NodeAcross = codes "'><circle r='13' cx='"
 markup_text markup.Legend =
     codes "</svg>\n"
     ++ codes "<figcaption>A broken circle: packets enter there. A thick circle: an outcome names it. Levels are distances from the ingresses. A device that is pressed filters the groups.</figcaption>\n"
+    ++ codes "</figure>\n"
+markup_text markup.WaysLegend =
+    codes "</svg>\n"
+    ++ codes "<figcaption>Behind its name stands in which network the packet passes a device; a filled circle: there the networks part. A broken circle: packets enter there. Levels are distances from the ingresses.</figcaption>\n"
     ++ codes "</figure>\n"
 markup_text markup.Script =
     codes "</main>\n"
@@ -183,6 +195,31 @@ markup_text markup.ListEnd =
     codes "</ul>\n"
     ++ codes "</section>\n"
 markup_text markup.ItemsEnd = codes "</ul>\n"
+markup_text markup.TracesTitle = codes "A packet in two networks"
+markup_text markup.Both =
+    codes "<section>\n"
+    ++ codes "<h2>Both networks</h2>\n"
+    ++ codes "<pre>"
+markup_text markup.BothEnd =
+    codes "</pre>\n"
+    ++ codes "</section>\n"
+markup_text markup.OldSide =
+    codes "<div class='sides'>\n"
+    ++ codes "<section>\n"
+    ++ codes "<h2>Old network</h2>\n"
+    ++ codes "<pre>"
+markup_text markup.NewSide =
+    codes "</pre>\n"
+    ++ codes "</section>\n"
+    ++ codes "<section>\n"
+    ++ codes "<h2>New network</h2>\n"
+    ++ codes "<pre>"
+markup_text markup.SidesEnd =
+    codes "</pre>\n"
+    ++ codes "</section>\n"
+    ++ codes "</div>\n"
+markup_text markup.Mark = codes "<mark>"
+markup_text markup.MarkEnd = codes "</mark>"
 markup_text markup.PageEnd =
     codes "</main>\n"
     ++ codes "</body>\n"

@@ -1,50 +1,36 @@
 //! Addresses as a person reads them.
 ghost use Rattle.std.specs.Prelude.{◌≡◌, ◌++◌, ◌-◌, ◌≤◌, ◌<◌, ◌^◌, OnOk};
 ghost use Rattle.view_core.specs.FieldWords.{octet_text, is_whole_octet, has_whole_octets, octets_text, wildcard_text, is_prefix, prefix_of, more_addresses, addresses_text, masked_address_text, address_part};
-ghost use Rattle.report_text.specs.FieldText.{address_text};
 
-use crate::appending::{append, append_number};
 use net_types::NoMemory;
 use report_groups::{Part, Pattern, Span};
-use report_text::address_bytes;
-use std::alloc::Global;
+use report_text::{append, append_address, append_number};
 
 /// An address, a prefix, the first and the last of other addresses, octets with stars between them, or an address and its wildcard.
-pub(crate) fn append_address_part(
-    alloc: Global,
-    out: &mut Vec<u8>,
-    part: &Part,
-) -> Result<(), NoMemory>
+pub(crate) fn append_address_part(out: &mut Vec<u8>, part: &Part) -> Result<(), NoMemory>
     ensures { OnOk result (out.new.items ≡ out.old.items ++ address_part part.now) }
 {
     match part {
-        Part::Run(span) => append_addresses(alloc, out, span),
-        Part::Masked(pattern) => append_masked(alloc, out, pattern),
+        Part::Run(span) => append_addresses(out, span),
+        Part::Masked(pattern) => append_masked(out, pattern),
     }
-}
-
-fn append_address(alloc: Global, out: &mut Vec<u8>, address: u32) -> Result<(), NoMemory>
-    ensures { OnOk result (out.new.items ≡ out.old.items ++ address_text address) }
-{
-    let text = address_bytes(alloc, address)?;
-    append(out, &text)
 }
 
 #[tactic(auto, unfolding(crate::specs::FieldWords::addresses_text))]
-fn append_addresses(alloc: Global, out: &mut Vec<u8>, span: &Span) -> Result<(), NoMemory>
+fn append_addresses(out: &mut Vec<u8>, span: &Span) -> Result<(), NoMemory>
     ensures { OnOk result (out.new.items ≡ out.old.items ++ addresses_text span.now) }
 {
     if span.low == span.high {
-        append_address(alloc, out, span.low)
+        append_address(out, span.low)
     } else {
-        append_more(alloc, out, span)
+        append_more(out, span)
     }
 }
 
-fn append_more(alloc: Global, out: &mut Vec<u8>, span: &Span) -> Result<(), NoMemory>
+fn append_more(out: &mut Vec<u8>, span: &Span) -> Result<(), NoMemory>
     ensures { OnOk result (out.new.items ≡ out.old.items ++ more_addresses (prefix_of span.now) span.now) }
 {
-    append_address(alloc, out, span.low)?;
+    append_address(out, span.low)?;
     match prefix_of(span) {
         Some(length) => {
             append(out, b"/")?;
@@ -52,7 +38,7 @@ fn append_more(alloc: Global, out: &mut Vec<u8>, span: &Span) -> Result<(), NoMe
         }
         None => {
             append(out, b" - ")?;
-            append_address(alloc, out, span.high)
+            append_address(out, span.high)
         }
     }
 }
@@ -84,13 +70,13 @@ pub(crate) fn power(k: u32) -> u64
 }
 
 #[tactic(auto, unfolding(crate::specs::FieldWords::masked_address_text))]
-fn append_masked(alloc: Global, out: &mut Vec<u8>, pattern: &Pattern) -> Result<(), NoMemory>
+fn append_masked(out: &mut Vec<u8>, pattern: &Pattern) -> Result<(), NoMemory>
     ensures { OnOk result (out.new.items ≡ out.old.items ++ masked_address_text pattern.now) }
 {
     if has_whole_octets(pattern.fixed) {
         append_octets(out, pattern)
     } else {
-        append_wildcard(alloc, out, pattern)
+        append_wildcard(out, pattern)
     }
 }
 
@@ -134,10 +120,10 @@ fn append_octets(out: &mut Vec<u8>, pattern: &Pattern) -> Result<(), NoMemory>
 
 // An address and its wildcard, in which the open bits are 1.
 #[tactic(auto, unfolding(crate::specs::FieldWords::wildcard_text))]
-fn append_wildcard(alloc: Global, out: &mut Vec<u8>, pattern: &Pattern) -> Result<(), NoMemory>
+fn append_wildcard(out: &mut Vec<u8>, pattern: &Pattern) -> Result<(), NoMemory>
     ensures { OnOk result (out.new.items ≡ out.old.items ++ wildcard_text pattern.now) }
 {
-    append_address(alloc, out, pattern.bits)?;
+    append_address(out, pattern.bits)?;
     append(out, b" ")?;
-    append_address(alloc, out, u32::MAX - pattern.fixed)
+    append_address(out, u32::MAX - pattern.fixed)
 }

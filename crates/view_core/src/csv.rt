@@ -4,13 +4,13 @@ ghost use Rattle.std.specs.List.{flat_map};
 ghost use Rattle.view_core.specs.Csv.{quoted_byte, quoted_text};
 ghost use Rattle.view_core.specs.Views.{csv_head, HasFront};
 
-use crate::appending::{append, append_number};
 use crate::fields::{Kind, append_values, is_open, service_of, source_kind, width_of};
 use crate::flags::append_flags;
 use crate::summary::row_count;
 use crate::text::{append_outcomes, change_name, name_of};
 use net_types::{List, Names, NoMemory, Outcome, Section};
 use report_groups::{Entry, Shown, Values, group_rows};
+use report_text::{append, append_number};
 use std::alloc::Global;
 
 // The first line.
@@ -84,7 +84,7 @@ fn append_field(
         return append_next(out, b"any");
     }
     let mut text = Vec::new(alloc);
-    append_values(alloc, &mut text, values, kind)?;
+    append_values(&mut text, values, kind)?;
     append_next(out, &text)
 }
 

@@ -10,6 +10,16 @@ pub fn escaped_is_plain()
     ensures { (text : List ℕ) → AllByRecursion (λ b. b < 256) text → AllByRecursion IsPlain (escaped text) }
 {}
 
+/// Adds a text: it is shown, and means nothing. Where memory runs out, a part of it may stand there.
+pub fn append_escaped(out: &mut Vec<u8>, text: &[u8]) -> Result<(), NoMemory>
+    ensures { OnOk result (out.new.items ≡ out.old.items ++ escaped text.now) }
+{
+    for b in text {
+        append_byte(out, *b)?;
+    }
+    Ok(())
+}
+
 /// Adds a byte of a text to a page: it is shown, and means nothing. Where memory runs out nothing is added.
 #[tactic(auto, unfolding(crate::specs::Escape::escape_of))]
 pub(crate) fn append_byte(out: &mut Vec<u8>, b: u8) -> Result<(), NoMemory>

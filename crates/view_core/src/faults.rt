@@ -2,10 +2,9 @@
 ghost use Rattle.std.specs.Prelude.{◌≤◌, IfOk, length};
 ghost use Rattle.view_core.specs.Names.{text_lines};
 
-use crate::appending::append;
 use crate::names::names_of;
 use net_types::NoMemory;
-use report_text::{ReportFail, read_report};
+use report_text::{ReportFail, append, read_report};
 use std::alloc::Global;
 
 // What a line may be, by what stands before it.

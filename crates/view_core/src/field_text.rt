@@ -1,11 +1,10 @@
 //! The fields of a cube as a report has them.
 ghost use Rattle.std.specs.Prelude.{◌≡◌, ◌++◌, ◌-◌, ◌^◌, ◌≤◌, ◌<◌, IfOk, OnOk};
-ghost use Rattle.report_text.specs.FieldText.{address_text, prefix_length, address_field_text, number_field_text, partial_text};
+ghost use Rattle.report_text.specs.FieldText.{prefix_length, address_field_text, number_field_text, partial_text};
 
-use crate::appending::{append, append_number};
 use crate::numbers::append_ternary;
 use net_types::NoMemory;
-use report_text::address_bytes;
+use report_text::{append, append_address, append_number};
 use std::alloc::Global;
 
 /// A field that is an address: `*`, an address, a prefix or ternary digits.
@@ -13,7 +12,7 @@ pub(crate) fn address_field_bytes(alloc: Global, fixed: u32, bits: u32) -> Resul
     ensures { IfOk result (λ text. text.items ≡ address_field_text fixed bits) }
 {
     let mut text = Vec::new(alloc);
-    append_address_field(alloc, &mut text, fixed, bits)?;
+    append_address_field(&mut text, fixed, bits)?;
     Ok(text)
 }
 
@@ -32,38 +31,26 @@ pub(crate) fn number_field_bytes(
     Ok(text)
 }
 
-fn append_address(alloc: Global, out: &mut Vec<u8>, address: u32) -> Result<(), NoMemory>
-    ensures { OnOk result (out.new.items ≡ out.old.items ++ address_text address) }
-{
-    let text = address_bytes(alloc, address)?;
-    append(out, &text)
-}
-
 #[tactic(auto, unfolding(report_text::specs::FieldText::address_field_text))]
-fn append_address_field(
-    alloc: Global,
-    out: &mut Vec<u8>,
-    fixed: u32,
-    bits: u32,
-) -> Result<(), NoMemory>
+fn append_address_field(out: &mut Vec<u8>, fixed: u32, bits: u32) -> Result<(), NoMemory>
     ensures { OnOk result (out.new.items ≡ out.old.items ++ address_field_text fixed bits) }
 {
     match fixed {
         0 => append(out, b"*"),
-        u32::MAX => append_address(alloc, out, bits),
-        _ => append_partial(alloc, out, fixed, bits),
+        u32::MAX => append_address(out, bits),
+        _ => append_partial(out, fixed, bits),
     }
 }
 
 // An address of which some bits are fixed and some are not.
-fn append_partial(alloc: Global, out: &mut Vec<u8>, fixed: u32, bits: u32) -> Result<(), NoMemory>
+fn append_partial(out: &mut Vec<u8>, fixed: u32, bits: u32) -> Result<(), NoMemory>
     requires some { 0 < fixed }
     requires not_all { fixed < 2 ^ 32 - 1 }
     ensures { OnOk result (out.new.items ≡ out.old.items ++ partial_text (prefix_length fixed) fixed bits) }
 {
     match prefix_length(fixed) {
         Some(length) => {
-            append_address(alloc, out, bits)?;
+            append_address(out, bits)?;
             append(out, b"/")?;
             append_number(out, length)
         }

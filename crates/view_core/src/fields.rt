@@ -4,12 +4,12 @@ ghost use Rattle.std.specs.List.{join_by, list_all, list_any};
 ghost use Rattle.view_core.specs.FieldWords.{part_text, width_of, values_text, field_words, is_whole, is_open, is_only, is_served, service_with, service_of, is_icmp, source_kind, source_words, open_words, words_text};
 
 use crate::addresses::{append_address_part, power};
-use crate::appending::append;
 use crate::flags::append_flags;
 use crate::labels::Service;
 use crate::numbers::{append_message_part, append_port_part, append_protocol_part};
 use net_types::NoMemory;
 use report_groups::{Part, Shown, Values};
+use report_text::append;
 use std::alloc::Global;
 
 const ICMP: u32 = 1;
@@ -33,7 +33,7 @@ pub(crate) fn append_fields(alloc: Global, out: &mut Vec<u8>, shown: &Shown) -> 
     ensures { OnOk result (out.new.items ≡ out.old.items ++ words_text shown.now) }
 {
     let mut words = Vec::new(alloc);
-    append_open(alloc, &mut words, shown)?;
+    append_open(&mut words, shown)?;
     if words.is_empty() {
         append(out, b"  any header")
     } else {
@@ -42,26 +42,26 @@ pub(crate) fn append_fields(alloc: Global, out: &mut Vec<u8>, shown: &Shown) -> 
 }
 
 #[tactic(auto, unfolding(crate::specs::FieldWords::open_words))]
-fn append_open(alloc: Global, out: &mut Vec<u8>, shown: &Shown) -> Result<(), NoMemory>
+fn append_open(out: &mut Vec<u8>, shown: &Shown) -> Result<(), NoMemory>
     ensures { OnOk result (out.new.items ≡ out.old.items ++ open_words shown.now) }
 {
     let ports = Kind::Port(service_of(&shown.proto));
-    append_field(alloc, out, b"  dst ", &shown.dst, Kind::Address)?;
-    append_field(alloc, out, b"  src ", &shown.src, Kind::Address)?;
-    append_field(alloc, out, b"  ", &shown.proto, Kind::Protocol)?;
-    append_field(alloc, out, b"  dport ", &shown.dport, ports)?;
-    append_source(alloc, out, shown)?;
+    append_field(out, b"  dst ", &shown.dst, Kind::Address)?;
+    append_field(out, b"  src ", &shown.src, Kind::Address)?;
+    append_field(out, b"  ", &shown.proto, Kind::Protocol)?;
+    append_field(out, b"  dport ", &shown.dport, ports)?;
+    append_source(out, shown)?;
     append_flags(out, &shown.flags)
 }
 
-fn append_source(alloc: Global, out: &mut Vec<u8>, shown: &Shown) -> Result<(), NoMemory>
+fn append_source(out: &mut Vec<u8>, shown: &Shown) -> Result<(), NoMemory>
     ensures { OnOk result (out.new.items ≡ out.old.items ++ source_words shown.now) }
 {
     let kind = source_kind(&shown.proto);
     if is_icmp(&shown.proto) {
-        append_field(alloc, out, b"  ", &shown.sport, kind)
+        append_field(out, b"  ", &shown.sport, kind)
     } else {
-        append_field(alloc, out, b"  sport ", &shown.sport, kind)
+        append_field(out, b"  sport ", &shown.sport, kind)
     }
 }
 
@@ -77,44 +77,32 @@ pub(crate) fn source_kind(proto: &Values) -> Kind
 }
 
 // A field behind its name, where it isn't open.
-fn append_field(
-    alloc: Global,
-    out: &mut Vec<u8>,
-    name: &[u8],
-    values: &Values,
-    kind: Kind,
-) -> Result<(), NoMemory>
+fn append_field(out: &mut Vec<u8>, name: &[u8], values: &Values, kind: Kind) -> Result<(), NoMemory>
     ensures { OnOk result (out.new.items ≡ out.old.items ++ field_words name.now kind values.now) }
 {
     if is_open(width_of(kind), values) {
         return Ok(());
     }
     append(out, name)?;
-    append_values(alloc, out, values, kind)
+    append_values(out, values, kind)
 }
 
 /// The parts of what is shown of a field.
 #[tactic(auto, unfolding(crate::specs::FieldWords::values_text))]
-pub(crate) fn append_values(
-    alloc: Global,
-    out: &mut Vec<u8>,
-    values: &Values,
-    kind: Kind,
-) -> Result<(), NoMemory>
+pub(crate) fn append_values(out: &mut Vec<u8>, values: &Values, kind: Kind) -> Result<(), NoMemory>
     ensures { OnOk result (out.new.items ≡ out.old.items ++ values_text kind values.now) }
 {
     let parts = values.parts.as_slice();
     if values.negated {
         append(out, b"not ")?;
-        append_parts(alloc, out, b" nor ", parts, kind)
+        append_parts(out, b" nor ", parts, kind)
     } else {
-        append_parts(alloc, out, b", ", parts, kind)
+        append_parts(out, b", ", parts, kind)
     }
 }
 
 // Parts with words between them.
 fn append_parts(
-    alloc: Global,
     out: &mut Vec<u8>,
     between: &[u8],
     parts: &[Part],
@@ -125,19 +113,19 @@ fn append_parts(
     let [first, rest @ ..] = parts else {
         return Ok(());
     };
-    append_part(alloc, out, first, kind)?;
+    append_part(out, first, kind)?;
     for part in rest {
         append(out, between)?;
-        append_part(alloc, out, part, kind)?;
+        append_part(out, part, kind)?;
     }
     Ok(())
 }
 
-fn append_part(alloc: Global, out: &mut Vec<u8>, part: &Part, kind: Kind) -> Result<(), NoMemory>
+fn append_part(out: &mut Vec<u8>, part: &Part, kind: Kind) -> Result<(), NoMemory>
     ensures { OnOk result (out.new.items ≡ out.old.items ++ part_text kind part.now) }
 {
     match kind {
-        Kind::Address => append_address_part(alloc, out, part),
+        Kind::Address => append_address_part(out, part),
         Kind::Protocol => append_protocol_part(out, part),
         Kind::Port(service) => append_port_part(out, service, part),
         Kind::Message => append_message_part(out, part),

@@ -4,9 +4,9 @@ ghost use Rattle.std.specs.List.{flat_map, join_by, list_any};
 ghost use Rattle.ios_words.specs.Names.{row_of};
 ghost use Rattle.view_core.specs.FieldWords.{flag_text, pattern_flags, is_open_pattern, flags_text};
 
-use crate::appending::append;
 use net_types::NoMemory;
 use report_groups::{Flags, Pattern};
+use report_text::append;
 
 /// Flags: by the word of access lists, or by name, those that are set and behind `no` those that aren't; nothing where all are meant.
 #[tactic(auto, unfolding(crate::specs::FieldWords::flags_text))]

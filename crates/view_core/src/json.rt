@@ -5,13 +5,12 @@ ghost use Rattle.report_text.specs.FieldText.{number_field_text};
 ghost use Rattle.report_text.specs.ReportText.{row_count};
 ghost use Rattle.view_core.specs.Json.{string_byte, string_text, key, string_member, place_members, address_change, port_change, outcome_members, outcome_text, outcomes_text, cube_members, fields_members, row_text, section_text, json_text};
 
-use crate::appending::{append, append_number};
 use crate::escape::hex_digit;
 use crate::field_text::{address_field_bytes, number_field_bytes};
 use crate::text::name_of;
 use hdr_bits::{Cube, Header};
 use net_types::{Label, Names, NoMemory, Outcome, Place, Row, Section};
-use report_text::address_bytes;
+use report_text::{address_bytes, append, append_number};
 use std::alloc::Global;
 
 /// The document of a report: exactly its sections and their rows, with the names of devices and interfaces.
@@ -74,7 +73,7 @@ fn append_section(
     ensures { OnOk result (out.new.items ≡ out.old.items ++ section_text names.now section.now) }
 {
     append(out, b"{")?;
-    append_place(out, names, section.place)?;
+    append_place_members(out, names, section.place)?;
     append(out, b", \"rows\": [")?;
     append_rows(alloc, out, names, section.rows.as_slice())?;
     append(out, b"]}")
@@ -255,7 +254,7 @@ fn append_outcome_members(
         Outcome::Local { place } => {
             append_member(out, b"end", b"local")?;
             append(out, b", ")?;
-            append_place(out, names, place)
+            append_place_members(out, names, place)
         }
         Outcome::Exit {
             place,
@@ -266,7 +265,7 @@ fn append_outcome_members(
         } => {
             append_member(out, b"end", b"exit")?;
             append(out, b", ")?;
-            append_place(out, names, place)?;
+            append_place_members(out, names, place)?;
             append_address(alloc, out, b"src", src)?;
             append_address(alloc, out, b"dst", dst)?;
             append_port(out, b"sport", sport)?;
@@ -306,8 +305,9 @@ fn append_port(out: &mut Vec<u8>, name: &[u8], port: Option<u16>) -> Result<(), 
     }
 }
 
+/// Adds the names of a place as members. Where memory runs out, a part of them may stand there.
 #[tactic(auto, unfolding(crate::specs::Json::place_members))]
-fn append_place(out: &mut Vec<u8>, names: &Names, place: Place) -> Result<(), NoMemory>
+pub fn append_place_members(out: &mut Vec<u8>, names: &Names, place: Place) -> Result<(), NoMemory>
     ensures { OnOk result (out.new.items ≡ out.old.items ++ place_members names.now place) }
 {
     append_member(out, b"device", name_of(names, place.device))?;

@@ -5,16 +5,19 @@
 #![tactic(auto)]
 
 mod addresses;
-mod appending;
 mod csv;
+mod cuts;
+mod differing;
 mod escape;
 mod faults;
 mod field_text;
 mod fields;
 mod flags;
+mod header_json;
 mod json;
 mod labels;
 mod layout;
+mod lines;
 mod markup;
 mod names;
 mod numbers;
@@ -28,14 +31,18 @@ mod text;
 mod top;
 mod words;
 
-pub use appending::{append, append_number};
 pub use csv::append_quoted;
-pub use escape::escaped_is_plain;
-pub use json::{append_member, append_string};
+pub use cuts::split_word;
+pub use differing::first_difference;
+pub use escape::{append_escaped, escaped_is_plain};
+pub use header_json::append_header_members;
+pub use json::{append_member, append_place_members, append_string};
+pub use lines::lines_of;
 pub use markup::Markup;
-pub use page::page_with;
+pub use page::{page_with, told_page};
+pub use picture::{Ways, add_ways};
 pub use reading::{Reported, read_report_file, report_in};
 pub use sheet::Sheet;
-pub use text::{append_outcomes, group_bytes};
+pub use text::{append_outcomes, group_bytes, group_words};
 pub use top::view_run;
 pub use words::{Format, Manner, behind_format, format_of};

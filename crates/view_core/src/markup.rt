@@ -93,6 +93,12 @@ pub enum Markup {
     CellNew,
     /// The end of a row.
     RowEnd,
+    /// What is folded under a group: its first line follows.
+    Why,
+    /// Behind that line: the others follow.
+    WhyLines,
+    /// The end of what is folded.
+    WhyEnd,
     /// A place where a name may be broken.
     Break,
     /// Behind the rows.
@@ -151,8 +157,20 @@ pub enum Markup {
     DeviceTextName,
     /// The end of a device.
     DeviceEnd,
+    /// A device of a picture that filters nothing: its place follows.
+    Node,
+    /// The packet passes it in the old network.
+    OldWay,
+    /// The packet passes it in the new network.
+    NewWay,
+    /// The networks part there.
+    Parting,
+    /// Behind these: its place follows.
+    NodeAcross,
     /// The end of the picture, and what it means.
     Legend,
+    /// The end of the picture of a packet's ways, and what it means.
+    WaysLegend,
     /// Behind all that: the script, without which the page shows the first groups.
     Script,
     /// Behind the lines: the picture may follow.
@@ -205,6 +223,22 @@ pub enum Markup {
     ListEnd,
     /// The end of a list of items in an item.
     ItemsEnd,
+    /// The title of the page of two traces.
+    TracesTitle,
+    /// What both networks do with the packet begins.
+    Both,
+    /// The end of that.
+    BothEnd,
+    /// What the old network does with it follows.
+    OldSide,
+    /// What the new network does with it follows.
+    NewSide,
+    /// The end of that.
+    SidesEnd,
+    /// A line by which the networks part.
+    Mark,
+    /// Its end.
+    MarkEnd,
     /// The end of a page without a script.
     PageEnd,
 }
@@ -259,6 +293,9 @@ pub(crate) fn markup_bytes(markup: Markup) -> &'static [u8]
         Markup::CellOld => CELL_OLD,
         Markup::CellNew => CELL_NEW,
         Markup::RowEnd => ROW_END,
+        Markup::Why => WHY,
+        Markup::WhyLines => WHY_LINES,
+        Markup::WhyEnd => WHY_END,
         Markup::Break => BREAK,
         Markup::TableEnd => TABLE_END,
         Markup::Rest => REST,
@@ -288,7 +325,13 @@ pub(crate) fn markup_bytes(markup: Markup) -> &'static [u8]
         Markup::DeviceTextDown => DEVICE_TEXT_DOWN,
         Markup::DeviceTextName => DEVICE_TEXT_NAME,
         Markup::DeviceEnd => DEVICE_END,
+        Markup::Node => NODE,
+        Markup::OldWay => OLD_WAY,
+        Markup::NewWay => NEW_WAY,
+        Markup::Parting => PARTING,
+        Markup::NodeAcross => NODE_ACROSS,
         Markup::Legend => LEGEND,
+        Markup::WaysLegend => WAYS_LEGEND,
         Markup::Script => SCRIPT,
         Markup::RestEnd => REST_END,
         Markup::AuditTitle => AUDIT_TITLE,
@@ -315,6 +358,14 @@ pub(crate) fn markup_bytes(markup: Markup) -> &'static [u8]
         Markup::ClosingLine => CLOSING_LINE,
         Markup::ListEnd => LIST_END,
         Markup::ItemsEnd => ITEMS_END,
+        Markup::TracesTitle => TRACES_TITLE,
+        Markup::Both => BOTH,
+        Markup::BothEnd => BOTH_END,
+        Markup::OldSide => OLD_SIDE,
+        Markup::NewSide => NEW_SIDE,
+        Markup::SidesEnd => SIDES_END,
+        Markup::Mark => MARK,
+        Markup::MarkEnd => MARK_END,
         Markup::PageEnd => PAGE_END,
     }
 }
@@ -354,10 +405,18 @@ svg path { stroke: var(--line); stroke-width: 2; fill: none; }
 svg circle { fill: var(--paper); stroke: var(--ink); stroke-width: 2; }
 svg .ends circle { stroke: var(--mark); stroke-width: 5; }
 svg .enters circle { stroke-dasharray: 4 3; }
+svg .was circle { stroke: var(--link); stroke-width: 5; }
+svg .goes circle { stroke: var(--calm); stroke-width: 5; }
+svg .was.goes circle { stroke: var(--ink); stroke-width: 5; }
+svg .parts circle { fill: var(--mark); }
 svg [role=button] { cursor: pointer; }
 svg [aria-pressed=true] circle { fill: var(--link); }
 .loops, .closes, .dead { border-left: 6px solid var(--mark); padding-left: 0.3rem; }
 code, pre { overflow-wrap: anywhere; white-space: pre-wrap; }
+pre { font-size: 0.85rem; margin: 0.3rem 0; }
+.sides { display: flex; flex-wrap: wrap; gap: 0 1.5rem; }
+.sides section { flex: 1 1 20rem; min-width: 0; }
+mark { display: block; color: inherit; background: none; font-weight: bold; border-left: 6px solid var(--mark); padding-left: 0.3rem; }
 .opens { border-left: 6px solid var(--calm); }
 .loops .change, .closes .change { color: var(--mark); font-weight: bold; }
 .opens .change { color: var(--calm); }
@@ -505,6 +564,12 @@ const CELL_NEW: &[u8] = b"</td><td data-of='New'>";
 
 const ROW_END: &[u8] = b"</td></tr>\n";
 
+const WHY: &[u8] = b"<tr class='why'><td colspan='5'><details><summary>Why: ";
+
+const WHY_LINES: &[u8] = b"</summary><pre>";
+
+const WHY_END: &[u8] = b"</pre></details></td></tr>\n";
+
 const BREAK: &[u8] = b"<wbr>";
 
 const TABLE_END: &[u8] = b"</tbody>
@@ -571,8 +636,23 @@ const DEVICE_TEXT_NAME: &[u8] = b"'>";
 
 const DEVICE_END: &[u8] = b"</text></g>\n";
 
+const NODE: &[u8] = b"<g class='";
+
+const OLD_WAY: &[u8] = b"was ";
+
+const NEW_WAY: &[u8] = b"goes ";
+
+const PARTING: &[u8] = b"parts ";
+
+const NODE_ACROSS: &[u8] = b"'><circle r='13' cx='";
+
 const LEGEND: &[u8] = b"</svg>
 <figcaption>A broken circle: packets enter there. A thick circle: an outcome names it. Levels are distances from the ingresses. A device that is pressed filters the groups.</figcaption>
+</figure>
+";
+
+const WAYS_LEGEND: &[u8] = b"</svg>
+<figcaption>Behind its name stands in which network the packet passes a device; a filled circle: there the networks part. A broken circle: packets enter there. Levels are distances from the ingresses.</figcaption>
 </figure>
 ";
 
@@ -584,7 +664,7 @@ const body = at('groups').tBodies[0];
 const kinds = ['loops', 'closes', 'opens', 'moves', 'translated otherwise'];
 const protocols = { icmp: 1, igmp: 2, ipinip: 4, tcp: 6, udp: 17, gre: 47, esp: 50, ahp: 51, eigrp: 88, ospf: 89, pim: 103 };
 const page = 1000;
-// What the page holds of a group: where it enters, its kind, the patterns of its fields, and four texts.
+// What the page holds of a group: where it enters, its kind, the patterns of its fields, its texts, and what is folded below it.
 const places = Array.from(at('place').options).slice(1).map(function (o) { return o.textContent; });
 const plain = function (text) {
   return text.replace(/&lt;/g, '<').replace(/&gt;/g, '>').replace(/&quot;/g, '\"').replace(/&#39;/g, \"'\").replace(/&amp;/g, '&');
@@ -592,11 +672,12 @@ const plain = function (text) {
 const groups = [];
 for (const line of at('rest').textContent.split('\\n')) {
   const part = line.split('\\t');
-  if (part.length === 6) groups.push({ place: Number(part[0]), change: part[1], fields: part[2], texts: part.slice(3).map(plain) });
+  if (part.length >= 6) groups.push({ place: Number(part[0]), change: part[1], fields: part[2], texts: part.slice(3, 6).map(plain), why: part.slice(6).map(plain), below: null });
 }
 for (const row of Array.from(body.rows)) {
   const cells = row.cells;
-  groups.push({ place: Number(row.dataset.place), change: row.className, fields: row.dataset.fields, texts: [cells[2].textContent, cells[3].textContent, cells[4].textContent] });
+  if (row.className === 'why') { groups[groups.length - 1].below = row; continue; }
+  groups.push({ place: Number(row.dataset.place), change: row.className, fields: row.dataset.fields, texts: [cells[2].textContent, cells[3].textContent, cells[4].textContent], why: [], below: null });
 }
 for (const group of groups) {
   group.kind = kinds.indexOf(group.change === 'translated' ? 'translated otherwise' : group.change);
@@ -658,6 +739,21 @@ const cell = function (row, name, text) {
     td.append(part);
   });
 };
+// The row below a group, in which these lines are folded behind the first of them.
+const folded = function (lines) {
+  const row = document.createElement('tr');
+  row.className = 'why';
+  const td = row.insertCell();
+  td.colSpan = 5;
+  const details = document.createElement('details');
+  const summary = document.createElement('summary');
+  const rest = document.createElement('pre');
+  summary.textContent = 'Why: ' + lines[0];
+  rest.textContent = lines.slice(1).join('\\n');
+  details.append(summary, rest);
+  td.append(details);
+  return row;
+};
 const more = function () {
   const end = Math.min(shown.groups.length, shown.count + page);
   for (; shown.count < end; shown.count += 1) {
@@ -669,6 +765,8 @@ const more = function () {
     cell(row, 'Headers', group.texts[0]);
     cell(row, 'Old', group.texts[1]);
     cell(row, 'New', group.texts[2]);
+    if (group.below === null && group.why.length > 0) group.below = folded(group.why);
+    if (group.below !== null) body.append(group.below);
   }
   const left = shown.groups.length - shown.count;
   at('more').hidden = left === 0;
@@ -786,6 +884,36 @@ const LIST_END: &[u8] = b"</ul>
 ";
 
 const ITEMS_END: &[u8] = b"</ul>\n";
+
+const TRACES_TITLE: &[u8] = b"A packet in two networks";
+
+const BOTH: &[u8] = b"<section>
+<h2>Both networks</h2>
+<pre>";
+
+const BOTH_END: &[u8] = b"</pre>
+</section>
+";
+
+const OLD_SIDE: &[u8] = b"<div class='sides'>
+<section>
+<h2>Old network</h2>
+<pre>";
+
+const NEW_SIDE: &[u8] = b"</pre>
+</section>
+<section>
+<h2>New network</h2>
+<pre>";
+
+const SIDES_END: &[u8] = b"</pre>
+</section>
+</div>
+";
+
+const MARK: &[u8] = b"<mark>";
+
+const MARK_END: &[u8] = b"</mark>";
 
 const PAGE_END: &[u8] = b"</main>
 </body>

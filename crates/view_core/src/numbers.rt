@@ -4,10 +4,10 @@ ghost use Rattle.std.specs.Int.{bit_at};
 ghost use Rattle.report_text.specs.FieldText.{digit_text, ternary_text};
 ghost use Rattle.view_core.specs.FieldWords.{range_text, name_or, protocol_text, protocol_part, name_behind, ports_text, port_part, one_type, one_message, some_types, some_messages, messages_text, masked_messages, message_part};
 
-use crate::appending::{append, append_number};
 use crate::labels::{Service, code_name, port_name, protocol_name, type_name};
 use net_types::NoMemory;
 use report_groups::{Part, Pattern, Span};
+use report_text::{append, append_number};
 
 /// A protocol by its name, or numbers.
 pub(crate) fn append_protocol_part(out: &mut Vec<u8>, part: &Part) -> Result<(), NoMemory>

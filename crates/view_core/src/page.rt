@@ -19,13 +19,29 @@ pub(crate) fn page_bytes(
     alloc: Global,
     names: &Names,
     sections: &[Section],
-    links: &Option<LinkTable>,
+    links: Option<&LinkTable>,
     title: &Text,
 ) -> Result<Vec<u8>, NoMemory>
     ensures begins { IfOk result (λ text. starts_with nat_eq text.items page_head ≡ true) }
     ensures escaped { IfOk result (λ text. ∥ IsPage text.items ∥₁) }
 {
-    let behind = behind_doctype(alloc, names, sections, links, title)?;
+    told_page(alloc, names, sections, links, title, &[])
+}
+
+/// The same, with a text that is folded under each of the first groups: these go by their ingresses, and those of an ingress by
+/// what is looked at first, as loops.
+pub fn told_page(
+    alloc: Global,
+    names: &Names,
+    sections: &[Section],
+    links: Option<&LinkTable>,
+    title: &Text,
+    told: &[Vec<u8>],
+) -> Result<Vec<u8>, NoMemory>
+    ensures begins { IfOk result (λ text. starts_with nat_eq text.items page_head ≡ true) }
+    ensures escaped { IfOk result (λ text. ∥ IsPage text.items ∥₁) }
+{
+    let behind = behind_doctype(alloc, names, sections, links, title, told)?;
     page_with(alloc, &behind)
 }
 
@@ -44,12 +60,13 @@ fn behind_doctype(
     alloc: Global,
     names: &Names,
     sections: &[Section],
-    links: &Option<LinkTable>,
+    links: Option<&LinkTable>,
     title: &Text,
+    told: &[Vec<u8>],
 ) -> Result<Sheet, NoMemory> {
     let mut groups = Groups::new(alloc);
     for section in sections {
-        groups.add(alloc, names, section)?;
+        groups.add(alloc, names, section, told)?;
     }
     let mut page = Sheet::new(alloc);
     add_heading(&mut page, title)?;

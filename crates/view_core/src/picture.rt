@@ -1,9 +1,11 @@
 //! The network as a picture: its devices by their distance from the ingresses, and the links between them.
+ghost use Rattle.std.specs.Prelude.{◌≡◌, ◌++◌, OnOk};
+ghost use Rattle.view_core.specs.Ways.{way_text, mark_text, marks_text};
 
 use crate::layout::{Graph, Layout, Point, bend_of, layout_of};
 use crate::markup::Markup;
 use crate::sheet::Sheet;
-use net_types::{Label, Names, NoMemory, Outcome, Section, Text};
+use net_types::{Label, List, Names, NoMemory, Outcome, Section, Text};
 use std::alloc::Global;
 use topo_links::{LinkKind, LinkTable, NameIndex};
 
@@ -18,23 +20,120 @@ pub(crate) fn add_picture(
     sections: &[Section],
     table: &LinkTable,
 ) -> Result<(), NoMemory> {
+    let plan = plan_of(alloc, table)?;
+    add_plan(page, &plan)?;
+    let ends = ends_of(alloc, names, sections)?;
+    for (name, point) in plan.names.as_slice().iter().zip(plan.layout.points.iter()) {
+        page.markup(Markup::Device)?;
+        if ends.has(name) {
+            page.markup(Markup::Ends)?;
+        }
+        add_entry(page, &plan, name)?;
+        page.markup(Markup::DeviceName)?;
+        page.text(name.as_bytes())?;
+        page.markup(Markup::DeviceAcross)?;
+        add_circle(page, name, *point)?;
+        page.markup(Markup::DeviceEnd)?;
+    }
+    page.markup(Markup::Legend)
+}
+
+/// The devices that a packet passes in the old network and in the new one, and those at which the networks part.
+#[derive(Drop)]
+pub struct Ways {
+    pub old: NameIndex,
+    pub new: NameIndex,
+    pub parts: NameIndex,
+}
+
+/// A picture of the network in which the ways of a packet are marked.
+pub fn add_ways(
+    alloc: Global,
+    page: &mut Sheet,
+    table: &LinkTable,
+    ways: &Ways,
+) -> Result<(), NoMemory> {
+    let plan = plan_of(alloc, table)?;
+    add_plan(page, &plan)?;
+    for (name, point) in plan.names.as_slice().iter().zip(plan.layout.points.iter()) {
+        page.markup(Markup::Node)?;
+        add_marks(page, ways, name)?;
+        add_entry(page, &plan, name)?;
+        page.markup(Markup::NodeAcross)?;
+        add_circle(page, name, *point)?;
+        page.text(way_of(ways, name))?;
+        page.markup(Markup::DeviceEnd)?;
+    }
+    page.markup(Markup::WaysLegend)
+}
+
+// The classes of a device that a packet passes.
+#[tactic(auto, unfolding(crate::specs::Ways::marks_text))]
+fn add_marks(page: &mut Sheet, ways: &Ways, name: &Text) -> Result<(), NoMemory>
+    ensures { OnOk result (page.new.bytes.items ≡ page.old.bytes.items ++ marks_text ways.now name.now) }
+{
+    mark_if(page, ways.old.has(name), Markup::OldWay)?;
+    mark_if(page, ways.new.has(name), Markup::NewWay)?;
+    mark_if(page, ways.parts.has(name), Markup::Parting)
+}
+
+fn mark_if(page: &mut Sheet, holds: bool, mark: Markup) -> Result<(), NoMemory>
+    ensures { OnOk result (page.new.bytes.items ≡ page.old.bytes.items ++ mark_text holds mark) }
+{
+    if holds {
+        return page.markup(mark);
+    }
+    Ok(())
+}
+
+// What stands behind the name of a device that a packet passes.
+fn way_of(ways: &Ways, name: &Text) -> &'static [u8]
+    ensures { result.now ≡ way_text ways.now name.now }
+{
+    match (ways.old.has(name), ways.new.has(name)) {
+        (true, true) => b" (both)",
+        (true, false) => b" (old)",
+        (false, true) => b" (new)",
+        (false, false) => b"",
+    }
+}
+
+// What pictures of a network have in common: the names of its devices and those where packets enter, and where everything stands.
+#[derive(Drop)]
+struct Plan {
+    names: List<Text>,
+    entries: NameIndex,
+    graph: Graph,
+    layout: Layout,
+}
+
+fn plan_of(alloc: Global, table: &LinkTable) -> Result<Plan, NoMemory> {
     let devices = devices_of(alloc, table)?;
     let graph = graph_of(alloc, &devices, table)?;
     let layout = layout_of(alloc, &graph)?;
+    Ok(Plan {
+        names: devices.copies(alloc)?,
+        entries: entries_of(alloc, table)?,
+        graph,
+        layout,
+    })
+}
+
+// The picture without its devices.
+fn add_plan(page: &mut Sheet, plan: &Plan) -> Result<(), NoMemory> {
     page.markup(Markup::Network)?;
-    page.number(layout.size.across)?;
+    page.number(plan.layout.size.across)?;
     page.markup(Markup::Blank)?;
-    page.number(layout.size.down)?;
+    page.number(plan.layout.size.down)?;
     page.markup(Markup::NetworkEnd)?;
-    add_links(page, &graph, &layout)?;
-    add_devices(
-        alloc,
-        page,
-        &devices,
-        &layout,
-        &marks_of(alloc, names, sections, table)?,
-    )?;
-    page.markup(Markup::Legend)
+    add_links(page, &plan.graph, &plan.layout)
+}
+
+fn add_entry(page: &mut Sheet, plan: &Plan, name: &Text) -> Result<(), NoMemory> {
+    if plan.entries.has(name) {
+        return page.markup(Markup::Enters);
+    }
+    Ok(())
 }
 
 fn devices_of(alloc: Global, table: &LinkTable) -> Result<NameIndex, NoMemory> {
@@ -73,21 +172,8 @@ fn graph_of(alloc: Global, devices: &NameIndex, table: &LinkTable) -> Result<Gra
     })
 }
 
-// The devices that are marked.
-#[derive(Drop)]
-struct Marks {
-    // Those that an outcome names.
-    ends: NameIndex,
-    // Those where packets enter.
-    entries: NameIndex,
-}
-
-fn marks_of(
-    alloc: Global,
-    names: &Names,
-    sections: &[Section],
-    table: &LinkTable,
-) -> Result<Marks, NoMemory> {
+// The devices that an outcome names.
+fn ends_of(alloc: Global, names: &Names, sections: &[Section]) -> Result<NameIndex, NoMemory> {
     let mut ends = NameIndex::new(alloc);
     for section in sections {
         for row in section.rows.as_slice() {
@@ -95,6 +181,11 @@ fn marks_of(
             add_ends(alloc, &mut ends, names, &row.new)?;
         }
     }
+    Ok(ends)
+}
+
+// The devices where packets enter.
+fn entries_of(alloc: Global, table: &LinkTable) -> Result<NameIndex, NoMemory> {
     let mut entries = NameIndex::new(alloc);
     for line in table.lines.as_slice() {
         if line.kind == LinkKind::Ingress {
@@ -103,7 +194,7 @@ fn marks_of(
             }
         }
     }
-    Ok(Marks { ends, entries })
+    Ok(entries)
 }
 
 fn add_ends(
@@ -153,31 +244,8 @@ fn add_point(page: &mut Sheet, point: Point) -> Result<(), NoMemory> {
     page.number(point.down)
 }
 
-fn add_devices(
-    alloc: Global,
-    page: &mut Sheet,
-    devices: &NameIndex,
-    layout: &Layout,
-    marks: &Marks,
-) -> Result<(), NoMemory> {
-    let names = devices.copies(alloc)?;
-    for (name, point) in names.as_slice().iter().zip(layout.points.iter()) {
-        page.markup(Markup::Device)?;
-        if marks.ends.has(name) {
-            page.markup(Markup::Ends)?;
-        }
-        if marks.entries.has(name) {
-            page.markup(Markup::Enters)?;
-        }
-        add_device(page, name, *point)?;
-    }
-    Ok(())
-}
-
-fn add_device(page: &mut Sheet, name: &Text, point: Point) -> Result<(), NoMemory> {
-    page.markup(Markup::DeviceName)?;
-    page.text(name.as_bytes())?;
-    page.markup(Markup::DeviceAcross)?;
+// The circle of a device, and its name below it.
+fn add_circle(page: &mut Sheet, name: &Text, point: Point) -> Result<(), NoMemory> {
     page.number(point.across)?;
     page.markup(Markup::DeviceDown)?;
     page.number(point.down)?;
@@ -186,6 +254,5 @@ fn add_device(page: &mut Sheet, name: &Text, point: Point) -> Result<(), NoMemor
     page.markup(Markup::DeviceTextDown)?;
     page.number(point.down.saturating_add(NAME_BELOW))?;
     page.markup(Markup::DeviceTextName)?;
-    page.text(name.as_bytes())?;
-    page.markup(Markup::DeviceEnd)
+    page.text(name.as_bytes())
 }

@@ -48,6 +48,18 @@ impl Sheet {
         Ok(())
     }
 
+    /// Adds text whose lines stay lines.
+    pub fn lines(&mut self, text: &[u8]) -> Result<(), NoMemory> {
+        for b in text {
+            if *b == b'\n' {
+                self.markup(Markup::LineEnd)?;
+            } else {
+                self.byte(*b)?;
+            }
+        }
+        Ok(())
+    }
+
     /// Adds text that may be broken behind a `/`.
     pub fn name(&mut self, text: &[u8]) -> Result<(), NoMemory> {
         for b in text {
@@ -74,8 +86,8 @@ impl Sheet {
         bytes
     }
 
-    // Adds a byte of a text.
-    fn byte(&mut self, b: u8) -> Result<(), NoMemory> {
+    /// Adds a byte of a text.
+    pub fn byte(&mut self, b: u8) -> Result<(), NoMemory> {
         append_byte(&mut self.bytes, b)
     }
 }

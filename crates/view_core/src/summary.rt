@@ -1,11 +1,10 @@
 //! How many rows and groups there are of each kind of change, and of each outcome.
 
-use crate::appending::{append, append_number};
 use crate::text::{ORDER, change_name};
 use indexmap::IndexMap;
 use net_types::{Names, NoMemory};
 use report_groups::{Change, Entry, Group};
-use report_text::outcome_bytes;
+use report_text::{append, append_number, outcome_bytes};
 use std::alloc::Global;
 
 /// Rows and groups, counted.

@@ -4,7 +4,7 @@ use crate::fields::append_fields;
 use crate::markup::Markup;
 use crate::sheet::Sheet;
 use crate::summary::count_change;
-use crate::text::{append_outcomes, append_place};
+use crate::text::{ORDER, append_outcomes, append_place};
 use net_types::{Names, NoMemory, Section};
 use report_groups::{Change, Entry, Group, Pattern, group_rows};
 use std::alloc::Global;
@@ -28,6 +28,8 @@ pub(crate) struct Groups {
     ingresses: u64,
     untouched_count: u64,
     rows: u64,
+    // How many groups there are, of all kinds.
+    number: usize,
 }
 
 // The groups of a kind of change: rows of the table, and lines of those that it does not show yet.
@@ -60,15 +62,17 @@ impl Groups {
             ingresses: 0,
             untouched_count: 0,
             rows: 0,
+            number: 0,
         }
     }
 
-    /// Adds the groups of an ingress.
+    /// Adds the groups of an ingress, with what is told of each by its number among all.
     pub(crate) fn add(
         &mut self,
         alloc: Global,
         names: &Names,
         section: &Section,
+        told: &[Vec<u8>],
     ) -> Result<(), NoMemory> {
         let mut name = Vec::new(alloc);
         append_place(&mut name, names, section.place)?;
@@ -80,9 +84,9 @@ impl Groups {
         add_choice(&mut self.choices, &ingress)?;
         let entries = group_rows(alloc, section.rows.as_slice())?;
         let mut counts = [0; 5];
-        for entry in &entries {
+        for entry in in_order(alloc, &entries)? {
             count_change(&mut counts, entry.change);
-            self.add_entry(alloc, names, &ingress, entry)?;
+            self.add_entry(alloc, names, &ingress, entry, told)?;
         }
         self.add_counts(&ingress, &counts, section.rows.as_slice().len() as u64)
     }
@@ -93,13 +97,16 @@ impl Groups {
         names: &Names,
         ingress: &Ingress,
         entry: &Entry,
+        told: &[Vec<u8>],
     ) -> Result<(), NoMemory> {
+        let words = words_of(alloc, names, entry, told_of(told, self.number))?;
+        self.number = self.number.saturating_add(1);
         match entry.change {
-            Change::Loops => add_group(alloc, &mut self.loops, names, ingress, entry),
-            Change::Closes => add_group(alloc, &mut self.closes, names, ingress, entry),
-            Change::Opens => add_group(alloc, &mut self.opens, names, ingress, entry),
-            Change::Moves => add_group(alloc, &mut self.moves, names, ingress, entry),
-            Change::Translated => add_group(alloc, &mut self.translated, names, ingress, entry),
+            Change::Loops => add_group(&mut self.loops, ingress, entry, &words),
+            Change::Closes => add_group(&mut self.closes, ingress, entry, &words),
+            Change::Opens => add_group(&mut self.opens, ingress, entry, &words),
+            Change::Moves => add_group(&mut self.moves, ingress, entry, &words),
+            Change::Translated => add_group(&mut self.translated, ingress, entry, &words),
         }
     }
 
@@ -237,33 +244,59 @@ fn add_numbers(page: &mut Sheet, counts: &[u64; 5], rows: u64) -> Result<(), NoM
     page.markup(Markup::CountsRowEnd)
 }
 
-// Adds a group to its kind: as a row of the table, or as a line where there are enough rows.
-fn add_group(
-    alloc: Global,
-    kind: &mut Kind,
-    names: &Names,
-    ingress: &Ingress,
-    entry: &Entry,
-) -> Result<(), NoMemory> {
-    let words = words_of(alloc, names, entry)?;
-    kind.count = kind.count.saturating_add(1);
-    if kind.count <= SHOWN {
-        add_row(&mut kind.rows, ingress, entry, &words)
-    } else {
-        add_line(&mut kind.lines, ingress, entry, &words)
+// The groups of an ingress, by what is looked at first.
+fn in_order<'a>(alloc: Global, entries: &'a [Entry]) -> Result<Vec<&'a Entry>, NoMemory> {
+    let mut found = Vec::new(alloc);
+    for change in &ORDER {
+        for entry in entries {
+            if entry.change == *change {
+                found.push(entry)?;
+            }
+        }
+    }
+    Ok(found)
+}
+
+// What is told of the group of this number; nothing behind the last text.
+fn told_of(told: &[Vec<u8>], number: usize) -> &[u8] {
+    match told.get(number) {
+        Some(text) => text.as_slice(),
+        None => &[],
     }
 }
 
-// What is shown of a group: its headers and its outcomes in the two networks.
+// Adds a group to its kind: as a row of the table, or as a line where there are enough rows.
+fn add_group(
+    kind: &mut Kind,
+    ingress: &Ingress,
+    entry: &Entry,
+    words: &Words,
+) -> Result<(), NoMemory> {
+    kind.count = kind.count.saturating_add(1);
+    if kind.count <= SHOWN {
+        add_row(&mut kind.rows, ingress, entry, words)
+    } else {
+        add_line(&mut kind.lines, ingress, entry, words)
+    }
+}
+
+// What is shown of a group: its headers, its outcomes in the two networks, and what is told below it.
 #[derive(Drop)]
-struct Words {
+struct Words<'a> {
     headers: Vec<u8>,
     old: Vec<u8>,
     new: Vec<u8>,
+    told: &'a [u8],
 }
 
-fn words_of(alloc: Global, names: &Names, entry: &Entry) -> Result<Words, NoMemory> {
+fn words_of<'a>(
+    alloc: Global,
+    names: &Names,
+    entry: &Entry,
+    told: &'a [u8],
+) -> Result<Words<'a>, NoMemory> {
     let mut words = Words {
+        told,
         headers: Vec::new(alloc),
         old: Vec::new(alloc),
         new: Vec::new(alloc),
@@ -322,7 +355,26 @@ fn add_row(
     rows.name(&words.old)?;
     rows.markup(Markup::CellNew)?;
     rows.name(&words.new)?;
-    rows.markup(Markup::RowEnd)
+    rows.markup(Markup::RowEnd)?;
+    add_told(rows, words.told)
+}
+
+// What is told of a group, folded behind its first line.
+fn add_told(rows: &mut Sheet, told: &[u8]) -> Result<(), NoMemory> {
+    if told.is_empty() {
+        return Ok(());
+    }
+    let mut line_end = Markup::WhyLines;
+    rows.markup(Markup::Why)?;
+    for b in told {
+        if *b == b'\n' {
+            rows.markup(line_end)?;
+            line_end = Markup::LineEnd;
+        } else {
+            rows.byte(*b)?;
+        }
+    }
+    rows.markup(Markup::WhyEnd)
 }
 
 fn add_line(
@@ -340,7 +392,24 @@ fn add_line(
     lines.text(&words.old)?;
     lines.markup(Markup::Tab)?;
     lines.text(&words.new)?;
+    add_told_parts(lines, words.told)?;
     lines.markup(Markup::LineEnd)
+}
+
+// The lines of what is told of a group, each a further part.
+fn add_told_parts(lines: &mut Sheet, told: &[u8]) -> Result<(), NoMemory> {
+    if told.is_empty() {
+        return Ok(());
+    }
+    lines.markup(Markup::Tab)?;
+    for b in told {
+        if *b == b'\n' {
+            lines.markup(Markup::Tab)?;
+        } else {
+            lines.byte(*b)?;
+        }
+    }
+    Ok(())
 }
 
 // The patterns of each field, each as the bits that are meant and the digits at those.

@@ -1,15 +1,14 @@
 //! A report as text for a person.
 ghost use Rattle.std.specs.Prelude.{◌≡◌, ◌++◌, length, IfOk, OnOk};
 ghost use Rattle.report_text.specs.ReportText.{name_text, label_text};
-ghost use Rattle.view_core.specs.Groups.{change_words, headers_text, group_text};
+ghost use Rattle.view_core.specs.Groups.{change_words, headers_text, group_words, group_text};
 ghost use Rattle.view_core.specs.Views.{HasFront, title_line, summary_head};
 
-use crate::appending::{append, append_number};
 use crate::fields::append_fields;
 use crate::summary::{Counts, append_changes, append_outcome_counts, count_change};
 use net_types::{List, Names, NoMemory, Outcome, Place, Section, Text};
 use report_groups::{Change, Entry, group_rows};
-use report_text::outcome_bytes;
+use report_text::{append, append_number, outcome_bytes};
 use std::alloc::Global;
 
 /// The kinds of changes in the order in which they are shown.
@@ -204,7 +203,8 @@ fn add_loop(
     }
     append(loops, b"  ingress ")?;
     append_place(loops, names, place)?;
-    append_headers(alloc, loops, names, entry)
+    append_headers(alloc, loops, names, entry)?;
+    append(loops, b"\n")
 }
 
 fn append_heading(
@@ -243,7 +243,7 @@ fn append_entry(
     append(out, &group_bytes(alloc, names, entry)?)
 }
 
-/// The line of a group: what the change does to its packets, its headers, and their outcomes in the two networks.
+/// The line of a group: its words, and the end of the line.
 ///
 /// # Errors
 ///
@@ -251,6 +251,20 @@ fn append_entry(
 #[tactic(auto, unfolding(crate::specs::Groups::group_text))]
 pub fn group_bytes(alloc: Global, names: &Names, entry: &Entry) -> Result<Vec<u8>, NoMemory>
     ensures { IfOk result (λ text. text.items ≡ group_text names.now entry.now) }
+{
+    let mut text = group_words(alloc, names, entry)?;
+    append(&mut text, b"\n")?;
+    Ok(text)
+}
+
+/// The words of a group: what the change does to its packets, its headers, and their outcomes in the two networks.
+///
+/// # Errors
+///
+/// There was no memory.
+#[tactic(auto, unfolding(crate::specs::Groups::group_words))]
+pub fn group_words(alloc: Global, names: &Names, entry: &Entry) -> Result<Vec<u8>, NoMemory>
+    ensures { IfOk result (λ text. text.items ≡ group_words names.now entry.now) }
 {
     let mut text = Vec::new(alloc);
     append(&mut text, change_name(entry.change))?;
@@ -271,8 +285,7 @@ fn append_headers(
     append(out, b": ")?;
     append_outcomes(alloc, out, names, &entry.group.old)?;
     append(out, b" -> ")?;
-    append_outcomes(alloc, out, names, &entry.group.new)?;
-    append(out, b"\n")
+    append_outcomes(alloc, out, names, &entry.group.new)
 }
 
 /// Adds outcomes at the end, with ` | ` between them. Where memory runs out, a part of them may stand there.

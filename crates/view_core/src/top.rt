@@ -200,7 +200,7 @@ fn text_of(
 {
     match manner.format {
         Format::Text => view_bytes(alloc, names, sections, &manner.title),
-        Format::Page => page_bytes(alloc, names, sections, links, &manner.title),
+        Format::Page => page_bytes(alloc, names, sections, links.as_ref(), &manner.title),
         Format::Json => json_bytes(alloc, names, sections),
         Format::Csv => csv_bytes(alloc, names, sections),
     }

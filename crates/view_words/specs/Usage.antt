@@ -16,9 +16,9 @@ usage_text =
     ++ codes "  view --csv REPORT\n"
     ++ codes "  view --audit [--html|--json|--csv] [--rows] FINDINGS NET\n"
     ++ codes "  view --answers [--html|--json|--csv|--junit] QUESTIONS [BEFORE] AFTER\n"
-    ++ codes "  view --traces OLD NEW LINKS DEVICE INTERFACE HEADER\n"
-    ++ codes "  view --why OLD NEW LINKS REPORT\n"
-    ++ codes "  view --why-all OLD NEW LINKS REPORT\n"
+    ++ codes "  view --traces [--html|--json] OLD NEW LINKS DEVICE INTERFACE HEADER\n"
+    ++ codes "  view --why [--html|--json] OLD NEW LINKS REPORT\n"
+    ++ codes "  view --why-all [--html|--json] OLD NEW LINKS REPORT\n"
     ++ codes "  view --help\n"
     ++ codes "  view --version\n"
 

@@ -11,9 +11,9 @@ pub const USAGE: &[u8] = b"usage:
   view --csv REPORT
   view --audit [--html|--json|--csv] [--rows] FINDINGS NET
   view --answers [--html|--json|--csv|--junit] QUESTIONS [BEFORE] AFTER
-  view --traces OLD NEW LINKS DEVICE INTERFACE HEADER
-  view --why OLD NEW LINKS REPORT
-  view --why-all OLD NEW LINKS REPORT
+  view --traces [--html|--json] OLD NEW LINKS DEVICE INTERFACE HEADER
+  view --why [--html|--json] OLD NEW LINKS REPORT
+  view --why-all [--html|--json] OLD NEW LINKS REPORT
   view --help
   view --version
 ";

@@ -80,8 +80,8 @@ module _ (t : Told) (old new links : List ℕ) (a : AcceptedNetworks t old new l
 all_is : {A : Type 0} (p : A → Bool) (xs : List A) (x : A) → Contains xs x → list_all p xs ≡ true → p x ≡ true
 all_is p xs x (k, within, is) all = subst (λ y. p y ≡ true) is (AllPass-from_list_all p xs all k x within)
 
-module _ (n : NumberedBoth) (w : Why) (bytes : List ℕ) (sections : List Section) (these : why.AreOfThese n w.all bytes sections) where
-  no_other : (line : List ℕ) → why.IsOther (why.ground_over n bytes) n.ingress w.all sections line → ⊥
+module _ (n : NumberedBoth) (w : Why) (bytes : List ℕ) (sections : List Section) (these : why.AreOfThese n w.manner.all bytes sections) where
+  no_other : (line : List ℕ) → why.IsOther (why.ground_over n bytes) n.ingress w.manner.all sections line → ⊥
   no_other line (inl other) =
       let one = these.ingresses.whole_report in
       let two = these.ingresses.whole_networks in

@@ -107,12 +107,12 @@ is_right g c = has_outcomes g.report g.names c.entry (old_trace g c) (new_trace 
 
 -- ---- what is said
 
--- the ingress and the group's line, the header, and its traces in both networks
+-- the header, and its traces in both networks
+unfoldable pub packet_text : Names → Header → Trace → Trace → List ℕ
+packet_text names h old new = codes "packet " ++ header_text h ++ codes "\n" ++ sides_text names old new
+
+-- the ingress and the group's line, and that
 unfoldable pub told_text : Names → Names → Case → Header → Trace → Trace → List ℕ
 told_text report names c h old new =
     codes "ingress " ++ place_text report c.section.place ++ codes ": " ++ group_text report c.entry
-    ++ codes "packet " ++ header_text h ++ codes "\n"
-    ++ sides_text names old new ++ codes "\n"
-
-abbrev pub case_text : Ground → Case → List ℕ
-case_text g c = told_text g.report g.names c (least_of c.entry.group) (old_trace g c) (new_trace g c)
+    ++ packet_text names h old new ++ codes "\n"

@@ -7,21 +7,22 @@ use Rattle.job_core.specs.declared.report.Report.{Report}
 use Rattle.job_core.specs.declared.stop.Stop.{Stop}
 use Rattle.job_core.specs.Steps.{Then, OrNoMemory}
 use Rattle.walk_trace.specs.Traced.{traced}
-use Rattle.trace_sides.specs.Sides.{sides_text}
 use Rattle.why_core.specs.declared.networks.Networks.{Networks}
 use Rattle.why_core.specs.Cases.{first_ttl}
+use Rattle.why_core.specs.Shown.{IsSides}
 use Rattle.why_core.specs.Words.{Traces, traces_of}
 use Rattle.why_core.specs.Networks.{AcceptedNetworks, GivesNetworks}
 
--- the packet's traces in both networks, from the place of these names on
-unfoldable pub traces_text : NumberedBoth → Traces → List ℕ
-traces_text n w =
-    sides_text n.names
+-- the packet's traces in both networks, from the place of these names on, are shown
+abbrev pub IsFollowed : NumberedBoth → Traces → List ℕ → Type 0
+IsFollowed n w text =
+    IsSides w.form n.names w
     (traced (record { network = n.old; links = n.old_links }) first_ttl (place_of n.names.texts (w.device, w.interface)) w.header)
     (traced (record { network = n.new; links = n.new_links }) first_ttl (place_of n.names.texts (w.device, w.interface)) w.header)
+    text
 
 pub record AreTraces (n : NumberedBoth) (w : Traces) (r : Report) : Type 0 where
-  pub text : r.text.items ≡ traces_text n w
+  pub shown : IsFollowed n w r.text.items
   pub affected : r.affected ≡ false
 
 -- both networks over their names and the two by which the packet's place is named: a place that a network doesn't have is absent

@@ -1,5 +1,5 @@
 -- Why the rows of a report differ: what becomes of the least header of each group in both networks.
-use Rattle.std.specs.Prelude.{◌≡◌, ◌⊎◌, ℕ, ◌<◌, Bool, true, false, List, [], ◌++◌, Option, None, Some, Result, Ok, Err, Contains, length, flat_map, is_some, slice_get, codes, decimal}
+use Rattle.std.specs.Prelude.{◌≡◌, ◌⊎◌, ℕ, ◌<◌, Bool, true, false, List, [], Option, None, Some, Result, Ok, Err, Contains, length, is_some, slice_get, codes}
 use Rattle.std.specs.List.{list_all}
 use Rattle.net_types.specs.declared.network.Names.{Names}
 use Rattle.net_types.specs.declared.network.Place.{Place}
@@ -18,17 +18,12 @@ use Rattle.view_core.specs.Views.{AcceptedReport, SaysReport}
 use Rattle.why_core.specs.declared.networks.Networks.{Networks}
 use Rattle.why_core.specs.Words.{Why, why_of}
 use Rattle.why_core.specs.Networks.{AcceptedNetworks, GivesNetworks}
-use Rattle.why_core.specs.Cases.{AreGroups, Case, Ground, agreeing, case_text, cases, explained, is_right}
+use Rattle.why_core.specs.declared.words.Manner.{Manner}
+use Rattle.why_core.specs.Cases.{AreGroups, Case, Ground, agreeing, cases, explained, is_right}
+use Rattle.why_core.specs.Shown.{IsShown}
 use Rattle.why_core.specs.Lines.{head_or_end, line_of}
 
 -- ---- an explanation
-
--- how many groups there are, and how many of them are explained
-unfoldable pub counts_text : ℕ → ℕ → List ℕ
-counts_text groups explained = codes "groups " ++ decimal groups ++ codes ", explained " ++ decimal explained ++ codes "\n\n"
-
-unfoldable pub why_text : Ground → Bool → List Case → List ℕ
-why_text g all cs = counts_text (length cs) (length (explained all cs)) ++ flat_map (case_text g) (explained all cs)
 
 -- the sections are those of the networks' ingresses, one of each
 pub record AreOfIngresses (g : Ground) (sections : List Section) (ingress : List Place) : Type 0 where
@@ -36,12 +31,12 @@ pub record AreOfIngresses (g : Ground) (sections : List Section) (ingress : List
   pub whole_networks : agreeing g.report g.names sections ingress ≡ length ingress
 
 -- for each group that is explained what becomes of its least header in both networks, and it is what the report says
-pub record IsExplanation (g : Ground) (ingress : List Place) (all : Bool) (sections : List Section) (text : List ℕ) : Type 0 where
+pub record IsExplanation (g : Ground) (ingress : List Place) (m : Manner) (sections : List Section) (text : List ℕ) : Type 0 where
   pub ingresses : AreOfIngresses g sections ingress
   pub groups : List (List Entry)
   pub grouped : AreGroups sections groups
-  pub right : list_all (is_right g) (explained all (cases sections ingress groups)) ≡ true
-  pub text_is : text ≡ why_text g all (cases sections ingress groups)
+  pub right : list_all (is_right g) (explained m.all (cases sections ingress groups)) ≡ true
+  pub shown : IsShown g m (cases sections ingress groups) text
 
 -- ---- a report of other networks
 
@@ -86,9 +81,9 @@ ground_over n bytes = ground_with (own_names bytes) n
 -- the explanation of a report; or it is refused, since it isn't one of these networks
 abbrev pub Judges : NumberedBoth → Why → List ℕ → List Section → Result Report Stop → Type 0
 Judges n w bytes sections (Ok r) =
-    IsExplanation (ground_over n bytes) n.ingress w.all sections r.text.items × (r.affected ≡ false)
+    IsExplanation (ground_over n bytes) n.ingress w.manner sections r.text.items × (r.affected ≡ false)
 Judges n w bytes sections (Err (stop.Refused path number kind word)) =
-    (line : List ℕ) × IsOther (ground_over n bytes) n.ingress w.all sections line
+    (line : List ℕ) × IsOther (ground_over n bytes) n.ingress w.manner.all sections line
     × (path ≡ w.report) × (number ≡ line_of bytes line) × (kind ≡ other_networks) × (word ≡ [])
 Judges n w bytes sections (Err stop.NoMemory) = Unit {0}
 Judges n w bytes sections (Err _) = ⊥
@@ -132,7 +127,7 @@ pub record AcceptedWhy (t : Told) (w : Why) : Type 0 where
   pub networks : AcceptedNetworks t w.old w.new w.links
   pub report : AcceptedReport t w.report
   pub same : (sections : List Section) → IsReportOf (own_names report.bytes) sections report.bytes
-      → AreOfThese (numbered_both networks.before.devices networks.after.devices networks.table.links.table networks.table.links.table []) w.all report.bytes sections
+      → AreOfThese (numbered_both networks.before.devices networks.after.devices networks.table.links.table networks.table.links.table []) w.manner.all report.bytes sections
 
 abbrev pub Accepted : Option Why → Told → Type 0
 Accepted None t = ⊥

@@ -4,7 +4,7 @@ ghost use Rattle.std.specs.Prelude.{◌≡◌, ◌++◌, OnOk};
 ghost use Rattle.report_text.specs.ReportText.{name_text, place_text};
 
 use net_types::{Names, NoMemory, Place};
-use view_core::append;
+use report_text::append;
 
 /// Adds the names of a place.
 #[tactic(auto, unfolding(report_text::specs::ReportText::place_text))]

@@ -1,6 +1,7 @@
 //! What an explanation rests on.
 
 use net_types::Names;
+use topo_links::LinkTable;
 use walk_trace::Site;
 
 /// The names of a report's places, and two networks with theirs.
@@ -10,6 +11,8 @@ pub struct Basis<'a> {
     pub report: &'a Names,
     /// The names of both networks.
     pub names: &'a Names,
+    /// The table that wires both.
+    pub links: &'a LinkTable,
     /// The old network.
     pub before: Site<'a>,
     /// The new network.

@@ -1,24 +1,26 @@
 //! What becomes of the least header of each group in both networks.
 
-ghost use Rattle.std.specs.Prelude.{◌≡◌, ◌++◌, None, IfOk, IfSome, IsTrue, OnOk, Contains, flat_map, length, map};
+ghost use Rattle.std.specs.Prelude.{◌≡◌, ◌++◌, ◌∷◌, [], None, IfOk, IfSome, IsTrue, OnOk, Contains, length, map};
 ghost use Rattle.std.specs.List.{list_all};
-ghost use Rattle.why_core.specs.Cases.{Case, case_in, case_text, ground_of, is_right, told_text};
+ghost use Rattle.why_core.specs.Cases.{Case, case_in, ground_of, is_right, packet_text, told_text};
+ghost use Rattle.why_core.specs.Shown.{case_shown, shown_of};
 ghost use Rattle.why_core.specs.Told.{IsTold, IsToldOf, IsWrong, AreRight};
-ghost use Rattle.why_core.specs.Why.{counts_text};
 
 use crate::append::append_place;
 use crate::basis::Basis;
 use crate::cases::{CaseRef, cases_of, explained, groups_of};
+use crate::gathered::gathered;
+use crate::json::told_json;
 use crate::lines::head_or_end;
 use crate::right::{agreeing, has_outcomes};
-use crate::words::FIRST_TTL;
+use crate::words::{FIRST_TTL, Form, Manner};
 use hdr_bits::Header;
-use net_types::{NoMemory, Place, Section};
+use net_types::{Names, NoMemory, Place, Section};
 use report_groups::least_header;
-use report_text::header_bytes;
+use report_text::{append, header_bytes};
 use std::alloc::Global;
 use trace_sides::sides_bytes;
-use view_core::{append, append_number, group_bytes};
+use view_core::group_bytes;
 use walk_trace::{Trace, trace_on};
 
 /// What there is to say of a report and two networks.
@@ -30,15 +32,23 @@ pub enum Told {
     Other { line: Vec<u8> },
 }
 
+/// A header, and what becomes of it in both networks.
+#[derive(Drop)]
+pub(crate) struct Followed {
+    pub(crate) header: Header,
+    pub(crate) old: Trace,
+    pub(crate) new: Trace,
+}
+
 /// The explanation of a report's groups, of all or the first hundred; or that it is one of other networks.
 pub(crate) fn explanation(
     alloc: Global,
     basis: &mut Basis,
     sections: &[Section],
     ingress: &[Place],
-    all: bool,
+    manner: Manner,
 ) -> Result<Told, NoMemory>
-    ensures { IfOk result (IsTold (ground_of basis.old) ingress.now all sections.now) }
+    ensures { IfOk result (IsTold (ground_of basis.old) ingress.now manner sections.now) }
 {
     let count = agreeing(alloc, basis.report, basis.names, sections, ingress)?;
     if count < sections.len() || count < ingress.len() {
@@ -47,16 +57,25 @@ pub(crate) fn explanation(
     }
     let groups = groups_of(alloc, sections)?;
     let cases = cases_of(alloc, sections, ingress, &groups)?;
-    told_of(alloc, basis, &cases, all)
+    told_of(alloc, basis, sections, &cases, manner)
 }
 
-fn told_of(alloc: Global, basis: &mut Basis, cases: &[CaseRef], all: bool) -> Result<Told, NoMemory>
-    ensures { IfOk result (IsToldOf (ground_of basis.old) (map case_in cases.now) all) }
+fn told_of(
+    alloc: Global,
+    basis: &mut Basis,
+    sections: &[Section],
+    cases: &[CaseRef],
+    manner: Manner,
+) -> Result<Told, NoMemory>
+    ensures { IfOk result (IsToldOf (ground_of basis.old) (map case_in cases.now) manner) }
 {
-    let some = explained(all, cases);
-    let mut text = counts_bytes(alloc, cases.len(), some.len())?;
-    match append_cases(alloc, &mut text, basis, some)? {
-        None => Ok(Told::Explained { text }),
+    let some = explained(manner.all, cases);
+    let mut told = Vec::new(alloc);
+    match add_cases(alloc, &mut told, basis, some, manner.form)? {
+        None => {
+            let text = gathered(alloc, basis, sections, cases.len(), &told, manner.form)?;
+            Ok(Told::Explained { text })
+        }
         Some(case) => {
             let line = head_or_end(alloc, basis.report, Some(case.section))?;
             Ok(Told::Other { line })
@@ -64,49 +83,37 @@ fn told_of(alloc: Global, basis: &mut Basis, cases: &[CaseRef], all: bool) -> Re
     }
 }
 
-// How many groups there are, and how many are explained.
-#[tactic(auto, unfolding(crate::specs::Why::counts_text))]
-fn counts_bytes(alloc: Global, groups: usize, some: usize) -> Result<Vec<u8>, NoMemory>
-    ensures { IfOk result (λ text. text.items ≡ counts_text groups some) }
-{
-    let mut text = Vec::new(alloc);
-    append(&mut text, b"groups ")?;
-    append_number(&mut text, groups)?;
-    append(&mut text, b", explained ")?;
-    append_number(&mut text, some)?;
-    append(&mut text, b"\n\n")?;
-    Ok(text)
-}
-
-// Adds the explanation of each group, up to the first of which the report says something else.
-fn append_cases<'a>(
+// Adds what is said of each group, up to the first of which the report says something else.
+fn add_cases<'a>(
     alloc: Global,
-    out: &mut Vec<u8>,
+    told: &mut Vec<Vec<u8>>,
     basis: &mut Basis,
     cases: &[CaseRef<'a>],
+    form: Form,
 ) -> Result<Option<CaseRef<'a>>, NoMemory>
-    ensures text { IfOk result (λ wrong. wrong ≡ None → out.new.items ≡ out.old.items ++ flat_map (case_text (ground_of basis.old)) (map case_in cases.now)) }
+    ensures told { IfOk result (λ wrong. wrong ≡ None → map (λ text. text.items) told.new.items ≡ map (λ text. text.items) told.old.items ++ map (case_shown form (ground_of basis.old)) (map case_in cases.now)) }
     ensures right { IfOk result (λ wrong. wrong ≡ None → AreRight (ground_of basis.old) (map case_in cases.now)) }
     ensures wrong { IfOk result (λ wrong. IfSome wrong (λ case. IsWrong (ground_of basis.old) (map case_in cases.now) (case_in case))) }
     ensures same { ground_of basis.new ≡ ground_of basis.old }
 {
     for case in cases {
-        if !append_case(alloc, out, basis, *case)? {
+        if !add_case(alloc, told, basis, *case, form)? {
             return Ok(Some(*case));
         }
     }
     Ok(None)
 }
 
-// Adds the explanation of a group, and answers whether the report says of it what both networks do.
-fn append_case(
+// Adds what is said of a group, and answers whether the report says of it what both networks do.
+fn add_case(
     alloc: Global,
-    out: &mut Vec<u8>,
+    told: &mut Vec<Vec<u8>>,
     basis: &mut Basis,
     case: CaseRef,
+    form: Form,
 ) -> Result<bool, NoMemory>
     ensures right { IfOk result (λ right. right ≡ is_right (ground_of basis.old) (case_in case.entry)) }
-    ensures text { IfOk result (λ right. IsTrue right → out.new.items ≡ out.old.items ++ case_text (ground_of basis.old) (case_in case.entry)) }
+    ensures told { IfOk result (λ right. IsTrue right → map (λ text. text.items) told.new.items ≡ map (λ text. text.items) told.old.items ++ case_shown form (ground_of basis.old) (case_in case.entry) ∷ []) }
     ensures same { ground_of basis.new ≡ ground_of basis.old }
 {
     let header = least_header(&case.entry.group);
@@ -115,35 +122,61 @@ fn append_case(
     if !has_outcomes(alloc, basis.report, basis.names, case.entry, &old, &new)? {
         return Ok(false);
     }
-    let told = told_bytes(alloc, basis, case, &header, &old, &new)?;
-    append(out, &told)?;
+    let text = shown(alloc, basis, case, &Followed { header, old, new }, form)?;
+    told.push(text)?;
     Ok(true)
 }
 
-// What is said of a group, behind its line: its header, and the header's traces.
+// What is said of a group and its header.
+fn shown(
+    alloc: Global,
+    basis: &Basis,
+    case: CaseRef,
+    followed: &Followed,
+    form: Form,
+) -> Result<Vec<u8>, NoMemory>
+    ensures { IfOk result (λ text. text.items ≡ shown_of form basis.now.report.now basis.now.names.now (case_in case.entry) followed.now.header followed.now.old followed.now.new) }
+{
+    match form {
+        Form::Text => told_bytes(alloc, basis, case, followed),
+        Form::Page => packet_bytes(alloc, basis.names, followed),
+        Form::Json => told_json(alloc, basis, case, followed),
+    }
+}
+
+// The line of a group, and its header with its traces.
 #[tactic(auto, unfolding(crate::specs::Cases::told_text))]
 fn told_bytes(
     alloc: Global,
     basis: &Basis,
     case: CaseRef,
-    header: &Header,
-    old: &Trace,
-    new: &Trace,
+    followed: &Followed,
 ) -> Result<Vec<u8>, NoMemory>
-    ensures { IfOk result (λ text. text.items ≡ told_text basis.now.report.now basis.now.names.now (case_in case.entry) header.now old.now new.now) }
+    ensures { IfOk result (λ text. text.items ≡ told_text basis.now.report.now basis.now.names.now (case_in case.entry) followed.now.header followed.now.old followed.now.new) }
 {
     let group = group_bytes(alloc, basis.report, case.entry)?;
-    let packet = header_bytes(alloc, header)?;
-    let sides = sides_bytes(alloc, basis.names, old, new)?;
+    let packet = packet_bytes(alloc, basis.names, followed)?;
     let mut text = Vec::new(alloc);
     append(&mut text, b"ingress ")?;
     append_place(&mut text, basis.report, case.section.place)?;
     append(&mut text, b": ")?;
     append(&mut text, &group)?;
+    append(&mut text, &packet)?;
+    append(&mut text, b"\n")?;
+    Ok(text)
+}
+
+// A header, and its traces.
+#[tactic(auto, unfolding(crate::specs::Cases::packet_text))]
+fn packet_bytes(alloc: Global, names: &Names, followed: &Followed) -> Result<Vec<u8>, NoMemory>
+    ensures { IfOk result (λ text. text.items ≡ packet_text names.now followed.now.header followed.now.old followed.now.new) }
+{
+    let packet = header_bytes(alloc, &followed.header)?;
+    let sides = sides_bytes(alloc, names, &followed.old, &followed.new)?;
+    let mut text = Vec::new(alloc);
     append(&mut text, b"packet ")?;
     append(&mut text, &packet)?;
     append(&mut text, b"\n")?;
     append(&mut text, &sides)?;
-    append(&mut text, b"\n")?;
     Ok(text)
 }

@@ -7,10 +7,14 @@ mod append;
 mod basis;
 mod cases;
 mod explain;
+mod gathered;
+mod json;
 mod lines;
 mod networks;
+mod page;
 mod right;
 mod traces;
+mod ways;
 mod why;
 mod words;
 

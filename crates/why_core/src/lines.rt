@@ -9,8 +9,8 @@ ghost use Rattle.why_core.specs.Lines.{head_or_end, head_text, line_of};
 
 use crate::append::append_place;
 use net_types::{Names, NoMemory, Section};
+use report_text::{append, append_number};
 use std::alloc::Global;
-use view_core::{append, append_number};
 
 /// The line with which a section begins; nothing where there is none.
 pub(crate) fn head_or_end(

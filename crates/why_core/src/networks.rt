@@ -84,16 +84,24 @@ fn read_linked<F: Files>(
     }
 }
 
+/// Both networks over one list of names, and the table that wires them.
+#[derive(Drop)]
+pub struct Wired {
+    pub both: NumberedBoth,
+    pub links: LinkTable,
+}
+
 /// Both networks over one list of names, which has these names too.
 pub(crate) fn number_networks(
     alloc: Global,
     networks: Networks,
     extra: &[Text],
-) -> Result<NumberedBoth, NoMemory>
+) -> Result<Wired, NoMemory>
     requires few { AreFew networks }
     requires extra { length extra.now ≤ 2 }
-    ensures { IfOk result (λ numbered. numbered ≡ numbered_both networks.old.items networks.new.items networks.links networks.links extra.now) }
+    ensures { IfOk result (λ wired. wired.both ≡ numbered_both networks.old.items networks.new.items networks.links networks.links extra.now) }
 {
     let Networks { old, new, links } = networks;
-    number_both(alloc, old, new, &links, &links, extra)
+    let both = number_both(alloc, old, new, &links, &links, extra)?;
+    Ok(Wired { both, links })
 }

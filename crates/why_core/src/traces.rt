@@ -1,4 +1,4 @@
-//! `view --traces OLD NEW LINKS DEVICE INTERFACE HEADER`: what becomes of a packet in two networks.
+//! `view --traces [FORM] OLD NEW LINKS DEVICE INTERFACE HEADER`: what becomes of a packet in two networks.
 
 ghost use Rattle.std.specs.Prelude.{◌≡◌, ◌≢◌, ◌⊎◌, ◌<◌, ◌≤◌, ◌^◌, ◌∷◌, [], false, IfErr, IfOk, IfSome, length, map, position, string_bytes};
 ghost use Rattle.std.specs.Str.{bytes_eq};
@@ -8,19 +8,21 @@ ghost use Rattle.job_core.specs.Steps.{OrNoMemory};
 ghost use Rattle.net_load.specs.Numbering.{number_of, place_of};
 ghost use Rattle.view_words.specs.Usage.{usage_text};
 ghost use Rattle.why_core.specs.Networks.{AreFew};
-ghost use Rattle.why_core.specs.Traces.{AreTraces, Does, Follows, IsAccepted, is_asked, numbered_for, traces_text};
+ghost use Rattle.why_core.specs.Shown.{IsSides};
+ghost use Rattle.why_core.specs.Traces.{AreTraces, Does, Follows, IsAccepted, IsFollowed, is_asked, numbered_for};
 ghost use Rattle.why_core.specs.Words.{traces_in};
 
-use crate::networks::{Networks, number_networks, read_networks};
-use crate::words::{FIRST_TTL, TracesWords, traces_of};
+use crate::json::traces_json;
+use crate::networks::{Networks, Wired, number_networks, read_networks};
+use crate::page::traces_page;
+use crate::words::{FIRST_TTL, Form, TracesWords, traces_of};
 use job_core::{Report, Stop, finish, no_memory, refuse};
 use net_io::{Files, Sink};
-use net_load::NumberedBoth;
 use net_types::{Names, NoMemory, Place, Text};
 use std::alloc::Global;
 use trace_sides::sides_bytes;
 use view_words::USAGE;
-use walk_trace::trace;
+use walk_trace::{Trace, trace};
 
 /// Follows a packet in two networks, and writes both traces side by side. It answers the status: 0 where that was written, and else
 /// as every program of the house.
@@ -76,8 +78,8 @@ fn followed(alloc: Global, networks: Networks, asked: TracesWords) -> Result<Rep
     ensures { IfOk result (AreTraces (numbered_for networks (traces_in asked.entry)) (traces_in asked.entry)) }
 {
     let names = names_of(alloc, asked)?;
-    let numbered = number_networks(alloc, networks, &names)?;
-    let text = traces_bytes(alloc, &numbered, asked)?;
+    let wired = number_networks(alloc, networks, &names)?;
+    let text = traces_bytes(alloc, &wired, asked)?;
     Ok(Report {
         text,
         affected: false,
@@ -94,15 +96,12 @@ fn names_of(alloc: Global, asked: TracesWords) -> Result<Vec<Text>, NoMemory>
     Ok(names)
 }
 
-#[tactic(auto, unfolding(crate::specs::Traces::traces_text))]
-fn traces_bytes(
-    alloc: Global,
-    numbered: &NumberedBoth,
-    asked: TracesWords,
-) -> Result<Vec<u8>, NoMemory>
-    requires { length numbered.now.names.texts < 2 ^ 32 }
-    ensures { IfOk result (λ text. text.items ≡ traces_text numbered.now (traces_in asked.entry)) }
+// The packet's traces in both networks, as the words ask.
+fn traces_bytes(alloc: Global, wired: &Wired, asked: TracesWords) -> Result<Vec<u8>, NoMemory>
+    requires { length wired.now.both.names.texts < 2 ^ 32 }
+    ensures { IfOk result (λ text. IsFollowed wired.now.both (traces_in asked.entry) text.items) }
 {
+    let numbered = &wired.both;
     let place = place_of(&numbered.names, asked.device, asked.interface);
     let header = asked.header;
     let old = trace(
@@ -121,7 +120,23 @@ fn traces_bytes(
         &header,
         FIRST_TTL,
     )?;
-    sides_bytes(alloc, &numbered.names, &old, &new)
+    shown(alloc, wired, asked, &old, &new)
+}
+
+fn shown(
+    alloc: Global,
+    wired: &Wired,
+    asked: TracesWords,
+    old: &Trace,
+    new: &Trace,
+) -> Result<Vec<u8>, NoMemory>
+    ensures { IfOk result (λ text. IsSides asked.entry.form wired.now.both.names (traces_in asked.entry) old.now new.now text.items) }
+{
+    match asked.form {
+        Form::Text => sides_bytes(alloc, &wired.both.names, old, new),
+        Form::Page => traces_page(alloc, wired, asked, old, new),
+        Form::Json => traces_json(alloc, &wired.both.names, asked, old, new),
+    }
 }
 
 // The place of these names.

@@ -14,11 +14,10 @@ ghost use Rattle.why_core.specs.Words.{why_in};
 use crate::basis::Basis;
 use crate::explain::{Told, explanation};
 use crate::lines::line_of;
-use crate::networks::{Networks, number_networks, read_networks};
-use crate::words::{WhyWords, why_of};
+use crate::networks::{Networks, Wired, number_networks, read_networks};
+use crate::words::{Manner, WhyWords, why_of};
 use job_core::{Report, Stop, finish, refuse};
 use net_io::{Files, Sink};
-use net_load::NumberedBoth;
 use net_types::{Names, NoMemory, Place, Text};
 use net_view::WorldRef;
 use std::alloc::Global;
@@ -115,8 +114,8 @@ fn judge(
     ensures plain { IfOk result (λ r. r.affected ≡ false) }
     ensures read { IfErr result WasRead }
 {
-    let numbered = number_networks(alloc, networks, &[])?;
-    let told = tell(alloc, &numbered, reported, asked.all)?;
+    let wired = number_networks(alloc, networks, &[])?;
+    let told = tell(alloc, &wired, reported, asked.manner)?;
     match told {
         Told::Explained { text } => Ok(Report {
             text,
@@ -131,21 +130,16 @@ fn judge(
 }
 
 // What there is to say, over the networks.
-fn tell(
-    alloc: Global,
-    numbered: &NumberedBoth,
-    reported: &Reported,
-    all: bool,
-) -> Result<Told, NoMemory>
-    ensures { IfOk result (IsTold (ground_with reported.now.names numbered.now) numbered.now.ingress all reported.now.sections.items) }
+fn tell(alloc: Global, wired: &Wired, reported: &Reported, manner: Manner) -> Result<Told, NoMemory>
+    ensures { IfOk result (IsTold (ground_with reported.now.names wired.now.both) wired.now.both.ingress manner reported.now.sections.items) }
 {
-    let mut basis = basis_of(alloc, numbered, &reported.names)?;
+    let mut basis = basis_of(alloc, wired, &reported.names)?;
     tell_on(
         alloc,
         &mut basis,
         reported,
-        numbered.ingress.as_slice(),
-        all,
+        wired.both.ingress.as_slice(),
+        manner,
     )
 }
 
@@ -155,34 +149,31 @@ fn tell_on(
     basis: &mut Basis,
     reported: &Reported,
     ingress: &[Place],
-    all: bool,
+    manner: Manner,
 ) -> Result<Told, NoMemory>
-    ensures { IfOk result (IsTold (ground_of basis.old) ingress.now all reported.now.sections.items) }
+    ensures { IfOk result (IsTold (ground_of basis.old) ingress.now manner reported.now.sections.items) }
 {
-    explanation(alloc, basis, &reported.sections, ingress, all)
+    explanation(alloc, basis, &reported.sections, ingress, manner)
 }
 
 // Both networks, each of which is indexed once.
-fn basis_of<'a>(
-    alloc: Global,
-    numbered: &'a NumberedBoth,
-    report: &'a Names,
-) -> Result<Basis<'a>, NoMemory>
-    ensures { IfOk result (λ basis. ground_of basis ≡ ground_with report.now numbered.now) }
+fn basis_of<'a>(alloc: Global, wired: &'a Wired, report: &'a Names) -> Result<Basis<'a>, NoMemory>
+    ensures { IfOk result (λ basis. ground_of basis ≡ ground_with report.now wired.now.both) }
 {
     let before = WorldRef {
-        network: &numbered.old,
-        links: &numbered.old_links,
+        network: &wired.both.old,
+        links: &wired.both.old_links,
     };
     let after = WorldRef {
-        network: &numbered.new,
-        links: &numbered.new_links,
+        network: &wired.both.new,
+        links: &wired.both.new_links,
     };
     let before = Site::of(alloc, before)?;
     let after = Site::of(alloc, after)?;
     Ok(Basis {
         report,
-        names: &numbered.names,
+        names: &wired.both.names,
+        links: &wired.links,
         before,
         after,
     })

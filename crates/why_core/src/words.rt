@@ -1,7 +1,7 @@
 //! The words of the command line.
 
 ghost use Rattle.std.specs.Prelude.{◌≡◌, IfOk, map, option_map, string_bytes};
-ghost use Rattle.why_core.specs.Words.{traces_in, traces_of, traces_with, why_in, why_of, why_with};
+ghost use Rattle.why_core.specs.Words.{behind_form, form_named, form_of, traces_in, traces_of, traces_over, traces_with, why_in, why_of, why_over, why_with};
 
 use hdr_bits::Header;
 use net_types::NoMemory;
@@ -12,17 +12,34 @@ use view_words::is_operand;
 /// Packets enter with the greatest TTL (RFC 791, 3.1): the words name none.
 pub(crate) const FIRST_TTL: u8 = 255;
 
-/// Two networks and a report on them, all of whose groups are to be explained, or the first hundred.
+/// A form in which something is shown.
+#[derive(Clone, Copy, Debug, PartialEq, Eq)]
+pub enum Form {
+    Text,
+    /// A page of HTML.
+    Page,
+    /// One document of JSON.
+    Json,
+}
+
+/// How a report is explained: all of its groups, or the first hundred, and in which form.
+#[derive(Clone, Copy, Debug, PartialEq, Eq)]
+pub struct Manner {
+    pub all: bool,
+    pub form: Form,
+}
+
+/// Two networks and a report on them, and in which manner it is explained.
 #[derive(Clone, Copy)]
 pub struct WhyWords<'a> {
     pub old: &'a str,
     pub new: &'a str,
     pub links: &'a str,
     pub report: &'a str,
-    pub all: bool,
+    pub manner: Manner,
 }
 
-/// Two networks, and a packet by its header and the place where it enters.
+/// Two networks, a packet by its header and the place where it enters, and in which form its traces are shown.
 #[derive(Clone, Copy)]
 pub struct TracesWords<'a> {
     pub old: &'a str,
@@ -31,9 +48,48 @@ pub struct TracesWords<'a> {
     pub device: &'a str,
     pub interface: &'a str,
     pub header: Header,
+    pub form: Form,
 }
 
-/// `--why OLD NEW LINKS REPORT`, or `--why-all` with the same.
+fn form_named(word: &[u8]) -> Option<Form>
+    ensures { result ≡ form_named word.now }
+{
+    if word == b"--html".as_slice() {
+        Some(Form::Page)
+    } else if word == b"--json".as_slice() {
+        Some(Form::Json)
+    } else {
+        None
+    }
+}
+
+// The form that the first word asks for, and else text.
+fn form_of(words: &[String]) -> Form
+    ensures { result ≡ form_of (map string_bytes words.now) }
+{
+    match words {
+        [] => Form::Text,
+        [first, ..] => form_named(first.as_bytes()).unwrap_or(Form::Text),
+    }
+}
+
+// The words behind that one, or all where it asks for none.
+fn behind_form(words: &[String]) -> &[String]
+    ensures { map string_bytes result.now ≡ behind_form (map string_bytes words.now) }
+{
+    match words {
+        [] => words,
+        [first, rest @ ..] => {
+            if form_named(first.as_bytes()).is_some() {
+                rest
+            } else {
+                words
+            }
+        }
+    }
+}
+
+/// `--why [FORM] OLD NEW LINKS REPORT`, or `--why-all` with the same.
 pub(crate) fn why_of(words: &[String]) -> Option<WhyWords<'_>>
     ensures { option_map why_in result ≡ why_of (map string_bytes words.now) }
 {
@@ -52,6 +108,16 @@ pub(crate) fn why_of(words: &[String]) -> Option<WhyWords<'_>>
 fn why_with(all: bool, words: &[String]) -> Option<WhyWords<'_>>
     ensures { option_map why_in result ≡ why_with all (map string_bytes words.now) }
 {
+    let manner = Manner {
+        all,
+        form: form_of(words),
+    };
+    why_over(manner, behind_form(words))
+}
+
+fn why_over(manner: Manner, words: &[String]) -> Option<WhyWords<'_>>
+    ensures { option_map why_in result ≡ why_over manner (map string_bytes words.now) }
+{
     let [old, new, links, report] = words else {
         return None;
     };
@@ -65,13 +131,13 @@ fn why_with(all: bool, words: &[String]) -> Option<WhyWords<'_>>
             new: new.as_str(),
             links: links.as_str(),
             report: report.as_str(),
-            all,
+            manner,
         });
     }
     None
 }
 
-/// `--traces OLD NEW LINKS DEVICE INTERFACE HEADER`.
+/// `--traces [FORM] OLD NEW LINKS DEVICE INTERFACE HEADER`.
 pub(crate) fn traces_of(
     alloc: Global,
     words: &[String],
@@ -89,6 +155,16 @@ pub(crate) fn traces_of(
 
 fn traces_with(alloc: Global, words: &[String]) -> Result<Option<TracesWords<'_>>, NoMemory>
     ensures { IfOk result (λ asked. option_map traces_in asked ≡ traces_with (map string_bytes words.now)) }
+{
+    traces_over(alloc, form_of(words), behind_form(words))
+}
+
+fn traces_over(
+    alloc: Global,
+    form: Form,
+    words: &[String],
+) -> Result<Option<TracesWords<'_>>, NoMemory>
+    ensures { IfOk result (λ asked. option_map traces_in asked ≡ traces_over form (map string_bytes words.now)) }
 {
     let [old, new, links, device, interface, header_word] = words else {
         return Ok(None);
@@ -111,5 +187,6 @@ fn traces_with(alloc: Global, words: &[String]) -> Result<Option<TracesWords<'_>
         device: device.as_str(),
         interface: interface.as_str(),
         header,
+        form,
     }))
 }

@@ -15,5 +15,5 @@ returns c =
     let whole : agreeing g.report g.names sections ingress ≡ length sections = omega (arith, count.count, count.within_sections) in
     let each : agreeing g.report g.names sections ingress ≡ length ingress = omega (arith, count.count, count.within_ingress) in
     let gathered = ap (λ (gs : List (Vec Entry Global)). cases sections ingress (map (λ (v : Vec Entry Global). v.items) gs)) c.deref.ensures.value in
-    told_all g ingress c.args.all sections (record { whole_report = whole; whole_networks = each }) groups c.in_ok-groups.ensures (map case_in c.deref-2.result.now)
+    told_all g ingress c.args.manner sections (record { whole_report = whole; whole_networks = each }) groups c.in_ok-groups.ensures (map case_in c.deref-2.result.now)
     (ap (map case_in) c.deref-2.ensures.value ∙ c.in_ok-cases.ensures ∙ gathered) c.told_of.result c.told_of.ensures

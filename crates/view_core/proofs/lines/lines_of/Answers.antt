@@ -1,0 +1,10 @@
+use Rattle.std.proofs.Common.{rules, ap, ◌∙◌, map, tests}
+use Rattle.std.proofs.lemmas.Iterator.Splits.{YieldsList-from_slice_split}
+use Rattle.std.proofs.lemmas.Iterator.Consumers.{YieldsList-end, YieldsList-at}
+use Rattle.net_text.specs.Lines.{is_line_end}
+use Rattle.view_core.proofs.lines.lines_of.Goals as goal
+
+pub returns : goal.returns
+returns c =
+    let t = YieldsList-end (YieldsList-at c.into_iter-line-iterator.ensures.into_iter_gives (YieldsList-from_slice_split _ is_line_end c.args.bytes.now c.split-line-items.ensures.rest c.split-line-items.ensures.done c.split-line-items.ensures.closure (λ x r q k. search (rules, tests)))) c.loop-line.yielded _ c.loop-line.yielded_by _ _ c.in-None.is c.next.ensures.steps in
+    ap (λ xs. map (λ line. line.now) xs) c.loop-line.invariant ∙ t.0
