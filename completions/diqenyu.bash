@@ -73,6 +73,7 @@ _diqenyu() {
             [ "${#given[@]}" = 1 ] && options=--title
             [ "$COMP_CWORD" -gt 1 ] && [ "${COMP_WORDS[1]}" = --audit ] && options='--html --json --csv --rows'
             [ "$COMP_CWORD" -gt 1 ] && [ "${COMP_WORDS[1]}" = --answers ] && options='--html --json --csv --junit'
+            [ "$COMP_CWORD" -gt 1 ] && [[ ${COMP_WORDS[1]} =~ ^--(why|why-all|traces)$ ]] && options='--html --json'
             ;;
     esac
     if [ -z "$only" ] && [[ $word == -* ]]; then

@@ -69,6 +69,8 @@ offers "--answers --audit --csv --help --html --json --title --traces --version 
 offers "--csv --html --json --rows" view --audit --
 offers "--csv --html --json --rows" view --audit --json --
 offers "--csv --html --json --junit" view --answers --
+offers "--html --json" view --why --
+offers "--html --json" view --traces --
 offers "--all" doctor $campus/old --
 offers "--all --help --version" doctor --
 offers "$campus/links" doctor $campus/old $campus/new $campus/li

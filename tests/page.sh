@@ -1,8 +1,9 @@
 #!/usr/bin/env bash
 # Opens pages of view in a headless Chromium (Debian's package) and looks at what they show: their groups, the filter, and at 1400 and 400
-# pixels, light and dark, whether anything is wider than the page, the least contrast of a text, and what no keyboard reaches. Skipped where
-# there is no Chromium. With a folder as its word it writes pictures of the page of examples/campus there: page-WIDTH-SCHEME.png and, where
-# poppler's pdftoppm is there, page-printed.png. The last line is 'N passed, M failed'.
+# pixels, light and dark, whether anything is wider than the page, the least contrast of a text, and what no keyboard reaches, with all that
+# is folded opened. Skipped where there is no Chromium. The pages are those of a report, an audit, answers, an explanation and two traces.
+# With a folder as its word it writes pictures of them there, as KIND-WIDTH-SCHEME.png and, where poppler's pdftoppm is there,
+# KIND-printed.png. The last line is 'N passed, M failed'.
 set -u
 cd "$(dirname "${BASH_SOURCE[0]}")/.." || exit 2
 browser=$(command -v chromium) || {
@@ -45,6 +46,8 @@ framed() {
 import html, pathlib, sys
 probe = r'''<script>
 (function () {
+  const folded = Array.from(document.querySelectorAll('details'));
+  for (const details of folded) details.open = true;
   const wide = Array.from(document.querySelectorAll('body *')).filter(function (e) {
     return e.getBoundingClientRect().right > innerWidth + 1 && !e.closest('#counts') && !e.closest('svg');
   }).length;
@@ -76,6 +79,8 @@ probe = r'''<script>
   const high = picture !== null && picture.getBoundingClientRect().height > innerHeight / 3 + 1;
   document.documentElement.dataset.probe = [innerWidth, 'wide ' + wide, least >= 4.5 ? 'contrast' : 'contrast ' + least.toFixed(2),
     'unreachable ' + still, high ? 'high' : 'low'].join(', ');
+  // What is folded below the first group stays open, to be seen.
+  for (const details of folded) details.open = details === document.querySelector('.why details');
 })();
 </script>'''
 page = pathlib.Path(sys.argv[1]).read_text().replace('</body>', probe + '</body>')
@@ -132,25 +137,62 @@ check "all groups" 300 "$(rows)"
 check "a name as it is" 300 "$(grep -o 'R[0-9]* &lt;script&gt;1&lt;/<wbr>script&gt;' "$scratch/dom" | wc -l)"
 check "console of names" 0 "$(grep -c 'CONSOLE' "$scratch/log")"
 
-for width in 1400 400; do
-    framed "$page" "$width" >"$scratch/frame.html"
-    for scheme in light dark; do
-        # (Blink's own numbers for the schemes)
-        number=1
-        [ "$scheme" = dark ] && number=0
-        options=(--window-size=1400,1200 --blink-settings=preferredColorScheme=$number)
-        chrome "${options[@]}" --dump-dom "file://$scratch/frame.html" >"$scratch/dom"
-        check "$width pixels, $scheme" "$width, wide 0, contrast, unreachable 0, low" "$(sed -n 's/.*<body[^>]*data-found="\([^"]*\)".*/\1/p' "$scratch/dom")"
-        if [ -n "$pictures" ]; then
-            [ "$width" = 400 ] && options[0]=--window-size=500,1200
-            chrome "${options[@]}" --screenshot="$pictures/page-$width-$scheme.png" "file://$scratch/frame.html"
-        fi
+# look KIND PAGE: at each width, in each scheme, and on paper.
+look() {
+    local kind=$1 page=$2 width scheme number options
+    for width in 1400 400; do
+        framed "$page" "$width" >"$scratch/frame.html"
+        for scheme in light dark; do
+            # (Blink's own numbers for the schemes)
+            number=1
+            [ "$scheme" = dark ] && number=0
+            options=(--window-size=1400,1200 --blink-settings=preferredColorScheme=$number)
+            chrome "${options[@]}" --dump-dom "file://$scratch/frame.html" >"$scratch/dom"
+            check "$kind, $width pixels, $scheme" "$width, wide 0, contrast, unreachable 0, low" \
+                "$(sed -n 's/.*<body[^>]*data-found="\([^"]*\)".*/\1/p' "$scratch/dom")"
+            check "console of $kind, $width pixels, $scheme" 0 "$(grep -c 'CONSOLE' "$scratch/log")"
+            if [ -n "$pictures" ]; then
+                [ "$width" = 400 ] && options[0]=--window-size=500,1200
+                chrome "${options[@]}" --screenshot="$pictures/$kind-$width-$scheme.png" "file://$scratch/frame.html"
+            fi
+        done
     done
-done
-if [ -n "$pictures" ] && command -v pdftoppm >/dev/null; then
-    chrome --no-pdf-header-footer --print-to-pdf="$scratch/page.pdf" "file://$page"
-    pdftoppm -singlefile -r 80 -png "$scratch/page.pdf" "$pictures/page-printed"
-fi
+    if [ -n "$pictures" ] && command -v pdftoppm >/dev/null; then
+        chrome --no-pdf-header-footer --print-to-pdf="$scratch/page.pdf" "file://$page"
+        pdftoppm -singlefile -r 80 -png "$scratch/page.pdf" "$pictures/$kind-printed"
+    fi
+}
+look page "$page"
+
+# Findings of an audit, and answers before and after.
+./view --audit --html --rows examples/audit/findings examples/audit/net >"$scratch/audit.html" || exit 2
+open "$scratch/audit.html"
+check "findings" "$(./view --audit --json examples/audit/findings examples/audit/net | grep -o '"closing": false' | wc -l)" "$(grep -o '<li\( class="dead"\)\?>line ' "$scratch/dom" | wc -l)"
+look audit "$scratch/audit.html"
+edge=examples/campus-edge-down
+./view --answers --html $edge/questions $edge/answers-old $edge/answers-new >"$scratch/answers.html" || exit 2
+open "$scratch/answers.html"
+check "headings of answers" "<h1>Answers to questions</h1>" "$(grep -o '<h1>.*</h1>' "$scratch/dom")"
+look answers "$scratch/answers.html"
+
+# Under each group why it is there, folded; it stays with its group where the filter leaves some.
+campus=examples/campus
+./view --why --html $campus/old $campus/new $campus/links $campus/expected >"$scratch/why.html" || exit 2
+open "$scratch/why.html"
+check "explanations" 4 "$(grep -o '<summary>Why: packet ' "$scratch/dom" | wc -l)"
+open "$scratch/why.html#branch"
+check "explanations of some" 2 "$(grep -o '<summary>Why: packet ' "$scratch/dom" | wc -l)"
+check "groups with these" "2 of 4 groups" "$(count)"
+check "console of explanations" 0 "$(grep -c 'CONSOLE' "$scratch/log")"
+look why "$scratch/why.html"
+
+# A packet in two networks: both its ways are marked, and the device at which they part.
+./view --traces --html $campus/old $campus/new $campus/links BRANCH Vlan40 10.30.20.1,10.40.0.5,17,53,5000,0 >"$scratch/traces.html" || exit 2
+open "$scratch/traces.html"
+check "devices in both" 3 "$(grep -o ' (both)</text>' "$scratch/dom" | wc -l)"
+check "where the networks part" 1 "$(grep -c '<g class="was goes parts' "$scratch/dom")"
+check "the line by which they part" 2 "$(grep -o '<mark>' "$scratch/dom" | wc -l)"
+look traces "$scratch/traces.html"
 
 echo "$passed passed, $failed failed"
 [ "$failed" = 0 ]
