@@ -6,7 +6,7 @@ ghost use Rattle.std.specs.Option.{option_copied};
 use crate::fate::Fate;
 use crate::hash::hash_of;
 use crate::same::same_fate;
-use net_types::NoMemory;
+use net_types::{Duplicate, NoMemory};
 use std::alloc::Global;
 use std::collections::HashMap;
 use std::marker::Model;
@@ -32,6 +32,7 @@ impl Model for Fates {
 
 impl Fates {
     ghost use Rattle.hdr_bits.specs.Lists.{Extends};
+    ghost use Rattle.device_fates.specs.Pieces.{AreNumbers};
 
     /// No fates.
     pub fn new(alloc: Global) -> Fates
@@ -50,6 +51,12 @@ impl Fates {
         self.fates.get(number as usize)
     }
 
+    fn as_slice(&self) -> &[Fate]
+        ensures { result.now ≡ self.now }
+    {
+        &self.fates
+    }
+
     /// The number of the fate, which is added where it isn't there.
     pub(crate) fn number_of(&mut self, fate: Fate) -> Result<u32, NoMemory>
         ensures number { IfOk result (λ number. slice_get self.new number ≡ Some fate) }
@@ -63,6 +70,21 @@ impl Fates {
         self.fates.push(fate)?;
         self.numbers.insert(hash, number)?;
         Ok(number)
+    }
+
+    /// The numbers of others' fates, one by one, each of which is added where it isn't there.
+    pub(crate) fn numbers_of(&mut self, alloc: Global, others: &Fates) -> Result<Vec<u32>, NoMemory>
+        ensures numbers { IfOk result (λ numbers. AreNumbers self.new numbers.items others.now) }
+        ensures grows { Extends self.old self.new }
+    {
+        let items = others.as_slice();
+        let mut numbers = Vec::with_capacity(alloc, items.len())?;
+        for fate in items {
+            let copy = fate.copy(alloc)?;
+            let number = self.number_of(copy)?;
+            numbers.push(number)?;
+        }
+        Ok(numbers)
     }
 
     /// The number of the fate, if it has one; the hash is that of the fate.
