@@ -13,7 +13,7 @@ ghost use Rattle.set_walk.specs.Sets.{InSet};
 ghost use Rattle.live_network.specs.Live.{IsLive, IsRenewed};
 
 use link_sends::Wiring;
-use net_forms::{FormedNetwork, Tables, compile_device};
+use net_forms::{Beforehand, FormedNetwork, KnownParts, Tables, compile_device};
 use net_types::{NetDevice, NoMemory};
 use net_view::WorldRef;
 use place_ways::{NetworkWays, WiredDevice, put_device, ways_of_one};
@@ -46,7 +46,11 @@ pub fn open_ways(alloc: Global, world: WorldRef) -> Result<LiveWays, NoMemory>
     ensures { IfOk result (IsLive (world_of world.entry)) }
 {
     let tables = Tables::new(alloc)?;
-    let formed = FormedNetwork::with_lists(alloc, tables, world, &[])?;
+    let nothing = Beforehand {
+        lists: &[],
+        pieces: &[],
+    };
+    let formed = FormedNetwork::with_known(alloc, tables, world, nothing)?;
     let live = ways_of_formed(alloc, formed)?;
     Ok(live)
 }
@@ -106,7 +110,11 @@ pub(crate) fn put_compiled(
     ensures put { OnOk result (PutsDevice wiring.now live.new.tables.diagrams live.old.scope live.new.ways.lists.items device.now (get same_place live.old.ways.positions) (get same_place live.new.ways.positions)) }
     ensures renewed { IsRenewed live.old live.new }
 {
-    let form = compile_device(alloc, &mut live.tables, device, &[])?;
+    let nothing = KnownParts {
+        lists: &[],
+        pieces: None,
+    };
+    let form = compile_device(alloc, &mut live.tables, device, nothing)?;
     let at = WiredDevice {
         fates: &live.tables.fates,
         wiring,

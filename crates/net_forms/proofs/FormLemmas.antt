@@ -20,7 +20,9 @@ use Rattle.net_types.specs.World.{Seat}
 use Rattle.device_fates.specs.declared.fate.Fate.{Fate}
 use Rattle.hdr_bits.specs.Lists.{Extends}
 use Rattle.hdr_bits.proofs.ListLemmas.{extends_get, extends_none, extends_then}
-use Rattle.device_fates.specs.Fates.{HasFate}
+use Rattle.device_fates.specs.declared.made.MadePieces.{MadePieces}
+use Rattle.device_fates.specs.Fates.{ArePiecesOf, HasFate}
+use Rattle.net_forms.specs.declared.forms.Beforehand.{Beforehand}
 use Rattle.net_forms.specs.declared.forms.DeviceForm.{DeviceForm}
 use Rattle.net_forms.specs.declared.forms.DeviceLists.{DeviceLists}
 use Rattle.net_forms.specs.declared.forms.KnownList.{KnownList}
@@ -28,7 +30,7 @@ use Rattle.net_forms.specs.declared.forms.SeatForm.{SeatForm}
 use Rattle.net_forms.specs.declared.forms.Tables.{Tables}
 use Rattle.net_forms.specs.Along.{AreAlong}
 use Rattle.net_forms.specs.Forms.{IsList, IsKnown, IsSeatForm, AreSeatForms, IsDeviceForm, IsFormOfSeat, TablesGrow, list_in}
-use Rattle.net_forms.specs.Known.{AreKnownLists, known_at}
+use Rattle.net_forms.specs.Known.{AreKnownBefore, AreKnownLists, AreKnownPieces, known_at}
 use Rattle.net_forms.specs.declared.forms.NetworkForm.{NetworkForm}
 use Rattle.net_forms.specs.Networks.{AreDevices, IsCopy, IsFormIn, IsNetworkForm}
 use Rattle.net_forms.proofs.FindLemmas.{at_position, found, not_found, there}
@@ -89,6 +91,14 @@ known_kept f g lists known k a = All-weaker (IsKnown f lists) (IsKnown g lists) 
 
 pub lists_kept : (f g : Functions) (ds : List NetDevice) (known : List DeviceLists) → Keeps f g → AreKnownLists f ds known → AreKnownLists g ds known
 lists_kept f g ds known k a n d e = known_kept f g d.config.lists (known_at known n) k (a n d e)
+
+pub before_kept : (f g : Functions) (ds : List NetDevice) (before : Beforehand) → Keeps f g → AreKnownBefore f ds before → AreKnownBefore g ds before
+before_kept f g ds before k a = record { lists = lists_kept f g ds before.lists.now k a.lists; pieces = a.pieces }
+
+-- the pieces that stand at a device's position are the device's
+pub pieces_here : (ds : List NetDevice) (known : List (Option MadePieces)) (n : ℕ) (d : NetDevice) (o : Option (Bor MadePieces)) → slice_get ds n ≡ Some d → AreKnownPieces ds known → IfSome o (λ made. slice_get known n ≡ Some (Some made.now)) → IfSome o (λ made. ArePiecesOf d.config made.now)
+pieces_here ds known n d None e a i = i
+pieces_here ds known n d (Some made) e a i = a n d made.now e i
 
 pub seat_kept : (f g : Functions) (c : Config) (i : Interface) (x : SeatForm) → Keeps f g → IsSeatForm f c i x → IsSeatForm g c i x
 seat_kept f g c i x k a = record { input = list_kept f g _ x.input k a.input; output = list_kept f g _ x.output k a.output }

@@ -1,22 +1,27 @@
 //! How a network is compiled: each device once, and each of its lists once. A device that another network has compiled
 //! already, equal in all, keeps the form that it has there.
 
-ghost use Rattle.std.specs.Prelude.{◌≡◌, All, Contains, IfOk, IfSome, OnOk, option_and_then, position, slice_get};
+ghost use Rattle.std.specs.Prelude.{◌≡◌, ◌<◌, All, Contains, IfOk, IfSome, OnOk, Some, option_and_then, position, slice_get};
 ghost use Rattle.std.specs.Option.{option_copied};
-ghost use Rattle.cube_diagram.specs.Functions.{Keeps};
+ghost use Rattle.hdr_bits.specs.declared.header.Header.{Header};
+ghost use Rattle.hdr_bits.specs.HeaderBits.{number, IsHeader};
+ghost use Rattle.cube_diagram.specs.Functions.{Keeps, count_of, value_at};
+ghost use Rattle.device_fates.specs.Fates.{ArePiecesOf, HasFate};
 ghost use Rattle.net_types.specs.Moves.{list_named};
 ghost use Rattle.net_view.specs.Borrowed.{world_of};
 ghost use Rattle.net_types.specs.Routes.{same_text};
 ghost use Rattle.net_forms.specs.Forms.{AreSeatForms, IsDeviceForm, IsKnown, IsList, TablesGrow, list_in};
-ghost use Rattle.net_forms.specs.Known.{AreKnownLists, known_at};
+ghost use Rattle.net_forms.specs.Known.{AreKnownBefore, AreKnownParts, known_at};
 ghost use Rattle.net_forms.specs.Networks.{AreDevices, IsCopy, IsFormIn, IsIndexed, IsNetworkForm};
 
-use crate::forms::{DeviceForm, DeviceLists, KnownList, NetworkForm, SeatForm, Tables};
+use crate::forms::{
+    Beforehand, DeviceForm, DeviceLists, KnownList, KnownParts, NetworkForm, SeatForm, Tables,
+};
 use crate::seat::device_named;
 use acl_match::add_list;
 use cube_diagram::Diagrams;
 use device_equality::same_device;
-use device_fates::add_device;
+use device_fates::{MadePieces, add_device, add_made};
 use link_sends::Wiring;
 use nat_static::{inside_pieces, outer_inside_pieces, outer_outside_pieces, outside_pieces};
 use net_types::{AccessList, Config, NetDevice, NoMemory, Text};
@@ -24,8 +29,8 @@ use net_view::{WorldRef, same_text};
 use std::alloc::Global;
 
 /// The form of the network, in these tables. `known` is a network that was compiled before in the same tables, if one was:
-/// an equal device has the same form in both. `lists` has for each device, as far as it goes, the lists whose functions the
-/// tables have already: no other function is made of these.
+/// an equal device has the same form in both. `before` tells which functions of lists the tables have already, and which
+/// pieces of devices were made: neither is made again.
 ///
 /// # Errors
 ///
@@ -35,10 +40,10 @@ pub fn compile_network<'a>(
     tables: &mut Tables,
     world: WorldRef<'a>,
     known: Option<&NetworkForm>,
-    lists: &[DeviceLists],
+    before: Beforehand,
 ) -> Result<NetworkForm<'a>, NoMemory>
     requires known { IfSome known (λ n. IsNetworkForm tables.old.diagrams tables.old.fates n.now) }
-    requires lists { AreKnownLists tables.old.diagrams world.network.now.devices lists.now }
+    requires before { AreKnownBefore tables.old.diagrams world.network.now.devices before }
     ensures form { IfOk result (λ n. IsNetworkForm tables.new.diagrams tables.new.fates n) }
     ensures world { IfOk result (λ n. n.world ≡ world.entry) }
     ensures kept { OnOk result (TablesGrow tables.old tables.new) }
@@ -49,7 +54,7 @@ pub fn compile_network<'a>(
         tables,
         known,
         world.network.devices.as_slice(),
-        lists,
+        before,
     )?;
     Ok(NetworkForm {
         world,
@@ -63,19 +68,39 @@ fn compile_devices(
     tables: &mut Tables,
     known: Option<&NetworkForm>,
     devices: &[NetDevice],
-    lists: &[DeviceLists],
+    before: Beforehand,
 ) -> Result<Vec<DeviceForm>, NoMemory>
     requires known { IfSome known (λ n. IsNetworkForm tables.old.diagrams tables.old.fates n.now) }
-    requires lists { AreKnownLists tables.old.diagrams devices.now lists.now }
+    requires before { AreKnownBefore tables.old.diagrams devices.now before }
     ensures forms { IfOk result (λ r. AreDevices tables.new.diagrams tables.new.fates devices.now r.items) }
     ensures kept { OnOk result (TablesGrow tables.old tables.new) }
 {
     let mut forms = Vec::new(alloc);
     for i in 0..devices.len() {
-        let form = known_or_compiled(alloc, tables, known, &devices[i], known_lists(lists, i))?;
+        let form = known_or_compiled(alloc, tables, known, &devices[i], known_parts(before, i))?;
         forms.push(form)?;
     }
     Ok(forms)
+}
+
+// What is known of the device at this position.
+fn known_parts<'a>(before: Beforehand<'a>, i: usize) -> KnownParts<'a>
+    ensures lists { result.lists.now ≡ known_at before.entry.lists.now i }
+    ensures pieces { IfSome result.pieces (λ made. slice_get before.entry.pieces.now i ≡ Some (Some made.now)) }
+{
+    KnownParts {
+        lists: known_lists(before.lists, i),
+        pieces: pieces_at(before.pieces, i),
+    }
+}
+
+fn pieces_at(pieces: &[Option<MadePieces>], i: usize) -> Option<&MadePieces>
+    ensures { IfSome result (λ made. slice_get pieces.now i ≡ Some (Some made.now)) }
+{
+    match pieces.get(i) {
+        Some(Some(made)) => Some(made),
+        _ => None,
+    }
 }
 
 // The lists that are known of the device at this position.
@@ -94,18 +119,18 @@ fn known_or_compiled(
     tables: &mut Tables,
     known: Option<&NetworkForm>,
     device: &NetDevice,
-    lists: &[KnownList],
+    parts: KnownParts,
 ) -> Result<DeviceForm, NoMemory>
     requires known { IfSome known (λ n. IsNetworkForm tables.old.diagrams tables.old.fates n.now) }
-    requires lists { All (IsKnown tables.old.diagrams device.now.config.lists) lists.now }
+    requires parts { AreKnownParts tables.old.diagrams device.now.config parts }
     ensures form { IfOk result (λ f. IsDeviceForm tables.new.diagrams tables.new.fates device.now f) }
     ensures kept { OnOk result (TablesGrow tables.old tables.new) }
 {
     let Some(network) = known else {
-        return compile_device(alloc, tables, device, lists);
+        return compile_device(alloc, tables, device, parts);
     };
     let Some(form) = known_form(network, device) else {
-        return compile_device(alloc, tables, device, lists);
+        return compile_device(alloc, tables, device, parts);
     };
     copy_of(alloc, form)
 }
@@ -138,7 +163,8 @@ fn copy_of(alloc: Global, form: &DeviceForm) -> Result<DeviceForm, NoMemory>
     })
 }
 
-/// The form of a device, in these tables. `lists` are its lists whose functions the tables have already.
+/// The form of a device, in these tables. `parts` are its lists whose functions the tables have already, and its pieces if they
+/// were made.
 ///
 /// # Errors
 ///
@@ -147,15 +173,15 @@ pub fn compile_device(
     alloc: Global,
     tables: &mut Tables,
     device: &NetDevice,
-    lists: &[KnownList],
+    parts: KnownParts,
 ) -> Result<DeviceForm, NoMemory>
-    requires { All (IsKnown tables.old.diagrams device.now.config.lists) lists.now }
+    requires { AreKnownParts tables.old.diagrams device.now.config parts }
     ensures form { IfOk result (λ f. IsDeviceForm tables.new.diagrams tables.new.fates device.now f) }
     ensures kept { TablesGrow tables.old tables.new }
 {
     let config = &device.config;
     let rules = config.nat.as_slice();
-    let seats = compile_seats(alloc, &mut tables.diagrams, config, lists)?;
+    let seats = compile_seats(alloc, &mut tables.diagrams, config, parts.lists)?;
     let pieces = outside_pieces(alloc, rules)?;
     let outside = tables.diagrams.first_match(&pieces)?;
     let pieces = outer_outside_pieces(alloc, rules)?;
@@ -164,7 +190,7 @@ pub fn compile_device(
     let inside = tables.diagrams.first_match(&pieces)?;
     let pieces = outer_inside_pieces(alloc, rules)?;
     let outer_inside = tables.diagrams.first_match(&pieces)?;
-    let fates = add_device(alloc, &mut tables.diagrams, &mut tables.fates, config)?;
+    let fates = add_fates(alloc, tables, config, parts.pieces)?;
     Ok(DeviceForm {
         seats,
         outside,
@@ -173,6 +199,24 @@ pub fn compile_device(
         outer_inside,
         fates,
     })
+}
+
+// The number of the function that gives each header the number of the fate of its destination.
+fn add_fates(
+    alloc: Global,
+    tables: &mut Tables,
+    config: &Config,
+    pieces: Option<&MadePieces>,
+) -> Result<u32, NoMemory>
+    requires { IfSome pieces (λ made. ArePiecesOf config.now made.now) }
+    ensures below { IfOk result (λ r. r < count_of tables.new.diagrams) }
+    ensures kept { TablesGrow tables.old tables.new }
+    ensures exact { IfOk result (λ r. (h : Header) → IsHeader h → HasFate config.now tables.new.fates (value_at tables.new.diagrams r (number h)) h.dst) }
+{
+    match pieces {
+        Some(made) => add_made(alloc, &mut tables.diagrams, &mut tables.fates, made),
+        None => add_device(alloc, &mut tables.diagrams, &mut tables.fates, config),
+    }
 }
 
 // The lists of each interface. What is known of them at first is known of more of them as these are met.

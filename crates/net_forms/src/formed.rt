@@ -2,11 +2,11 @@
 
 ghost use Rattle.std.specs.Prelude.{IfOk};
 ghost use Rattle.net_view.specs.Borrowed.{world_of};
-ghost use Rattle.net_forms.specs.Known.{AreKnownLists};
+ghost use Rattle.net_forms.specs.Known.{AreKnownBefore};
 ghost use Rattle.net_forms.specs.Networks.{IsFormedNetwork};
 
 use crate::compile::compile_network;
-use crate::forms::{DeviceLists, NetworkForm, Tables};
+use crate::forms::{Beforehand, NetworkForm, Tables};
 use net_types::NoMemory;
 use net_view::WorldRef;
 use std::alloc::Global;
@@ -19,21 +19,21 @@ pub struct FormedNetwork<'a> {
 }
 
 impl<'a> FormedNetwork<'a> {
-    /// Compiles a network in these tables, which have the functions of some lists of its devices already.
+    /// Compiles a network in these tables. Of its devices some lists may be functions of the tables already, and some pieces made.
     ///
     /// # Errors
     ///
     /// There was no memory.
-    pub fn with_lists(
+    pub fn with_known(
         alloc: Global,
         mut tables: Tables,
         world: WorldRef<'a>,
-        lists: &[DeviceLists],
+        before: Beforehand,
     ) -> Result<FormedNetwork<'a>, NoMemory>
-        requires { AreKnownLists tables.diagrams world.network.now.devices lists.now }
+        requires { AreKnownBefore tables.diagrams world.network.now.devices before }
         ensures { IfOk result (IsFormedNetwork (world_of world.entry)) }
     {
-        let form = compile_network(alloc, &mut tables, world, None, lists)?;
+        let form = compile_network(alloc, &mut tables, world, None, before)?;
         Ok(FormedNetwork { tables, form })
     }
 }

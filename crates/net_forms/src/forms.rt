@@ -3,7 +3,7 @@
 ghost use Rattle.std.specs.Prelude.{◌≡◌, [], IfOk};
 
 use cube_diagram::Diagrams;
-use device_fates::Fates;
+use device_fates::{Fates, MadePieces};
 use link_sends::Wiring;
 use net_types::NoMemory;
 use net_view::WorldRef;
@@ -52,6 +52,20 @@ pub struct KnownList {
 #[derive(Drop)]
 pub struct DeviceLists {
     pub lists: Vec<KnownList>,
+}
+
+/// What is known of the devices of a network before they are compiled, by their positions, as far as it goes.
+#[derive(Clone, Copy)]
+pub struct Beforehand<'a> {
+    pub lists: &'a [DeviceLists],
+    pub pieces: &'a [Option<MadePieces>],
+}
+
+/// What is known of one device before it is compiled.
+#[derive(Clone, Copy)]
+pub struct KnownParts<'a> {
+    pub lists: &'a [KnownList],
+    pub pieces: Option<&'a MadePieces>,
 }
 
 /// The functions of a device.

@@ -15,7 +15,9 @@ mod version;
 
 pub use compile::{compile_device, compile_network};
 pub use formed::FormedNetwork;
-pub use forms::{DeviceForm, DeviceLists, KnownList, NetworkForm, SeatForm, Tables};
+pub use forms::{
+    Beforehand, DeviceForm, DeviceLists, KnownList, KnownParts, NetworkForm, SeatForm, Tables,
+};
 pub use networks::Networks;
 pub use prepared::{BothForms, Prepared, PreparedParts};
 pub use seat::{

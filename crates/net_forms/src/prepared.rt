@@ -2,7 +2,7 @@
 
 use crate::Version;
 use crate::compile::compile_network;
-use crate::forms::{DeviceLists, NetworkForm, Tables};
+use crate::forms::{Beforehand, NetworkForm, Tables};
 use crate::networks::Networks;
 use crate::seat::{CompiledSeat, seat_at};
 use device_fates::Fates;
@@ -59,7 +59,7 @@ impl<'a> Prepared<'a> {
     ghost use Rattle.net_view.specs.Borrowed.{seat_of};
     ghost use Rattle.like_devices.specs.Like.{IsLike};
     ghost use Rattle.net_types.specs.World.{seat_at};
-    ghost use Rattle.net_forms.specs.Known.{AreKnownLists};
+    ghost use Rattle.net_forms.specs.Known.{AreKnownBefore};
     ghost use Rattle.net_forms.specs.Pairs.{ArePreparedParts, worlds_of};
     ghost use Rattle.net_forms.specs.Seats.{StandsIn};
     ghost use Rattle.net_forms.specs.Worlds.{world_in};
@@ -73,29 +73,34 @@ impl<'a> Prepared<'a> {
         ensures { IfOk result (λ p. p ≡ worlds_of networks.entry) }
     {
         let tables = Tables::new(alloc)?;
-        Prepared::with_lists(alloc, tables, networks, &[], &[])
+        let nothing = Beforehand {
+            lists: &[],
+            pieces: &[],
+        };
+        Prepared::with_known(alloc, tables, networks, nothing, nothing)
     }
 
-    /// Compiles two networks in these tables, which have the functions of some lists of the devices of both already.
+    /// Compiles two networks in these tables. Of the devices of both some lists may be functions of the tables already, and
+    /// some pieces made.
     ///
     /// # Errors
     ///
     /// There was no memory.
-    pub fn with_lists(
+    pub fn with_known(
         alloc: Global,
         mut tables: Tables,
         networks: Networks<'a>,
-        old_lists: &[DeviceLists],
-        new_lists: &[DeviceLists],
+        of_old: Beforehand,
+        of_new: Beforehand,
     ) -> Result<Prepared<'a>, NoMemory>
-        requires old { AreKnownLists tables.diagrams networks.old.network.now.devices old_lists.now }
-        requires new { AreKnownLists tables.diagrams networks.new.network.now.devices new_lists.now }
+        requires old { AreKnownBefore tables.diagrams networks.old.network.now.devices of_old }
+        requires new { AreKnownBefore tables.diagrams networks.new.network.now.devices of_new }
         ensures { IfOk result (λ p. p ≡ worlds_of networks.entry) }
     {
         let Networks { old, new } = networks;
-        let before = compile_network(alloc, &mut tables, old, None, old_lists)?;
+        let before = compile_network(alloc, &mut tables, old, None, of_old)?;
         let known = Some(&before);
-        let after = compile_network(alloc, &mut tables, new, known, new_lists)?;
+        let after = compile_network(alloc, &mut tables, new, known, of_new)?;
         let like = like_devices(alloc, old, new, &before.wiring, &after.wiring)?;
         Ok(Prepared {
             tables,

@@ -2,18 +2,22 @@ use Rattle.std.proofs.Common.{List, All, sym, refl, subst, length}
 use Rattle.std.proofs.lemmas.Option.{slice_get_read}
 use Rattle.net_forms.specs.declared.forms.KnownList.{KnownList}
 use Rattle.net_forms.specs.Forms.{IsKnown}
-use Rattle.net_forms.proofs.FormLemmas.{devices_more, tables_then, known_kept_in, lists_kept}
+use Rattle.net_forms.proofs.FormLemmas.{before_kept, devices_more, known_kept_in, pieces_here, tables_then}
 use Rattle.net_forms.proofs.compile.compile_devices.Goals as goal
 
 pub known_or_compiled-requires-clause-known : goal.known_or_compiled-requires-clause-known
 known_or_compiled-requires-clause-known c = c.loop-i.invariant.known
 
-pub known_or_compiled-requires-clause-lists : goal.known_or_compiled-requires-clause-lists
-known_or_compiled-requires-clause-lists c =
+pub known_or_compiled-requires-clause-parts : goal.known_or_compiled-requires-clause-parts
+known_or_compiled-requires-clause-parts c =
     let ds = c.args.devices.now in
     let i = c.loop-i.i in
     let d = c.index-devices-i.result in
-    subst (λ (ks : List KnownList). All (IsKnown c.loop-i.tables.diagrams d.config.lists) ks) (sym c.known_lists.ensures) (c.loop-i.invariant.lists i d (slice_get_read ds (length ds) i d refl c.loop-i-test.true c.index-devices-i.is))
+    let there = slice_get_read ds (length ds) i d refl c.loop-i-test.true c.index-devices-i.is in
+    record {
+      lists = subst (λ (ks : List KnownList). All (IsKnown c.loop-i.tables.diagrams d.config.lists) ks) (sym c.known_parts.ensures.lists) (c.loop-i.invariant.before.lists i d there);
+      pieces = pieces_here ds c.args.before.pieces.now i d c.known_parts.result.pieces there c.loop-i.invariant.before.pieces c.known_parts.ensures.pieces;
+    }
 
 pub loop-i-preserved : goal.loop-i-preserved
 loop-i-preserved c =
@@ -24,6 +28,6 @@ loop-i-preserved c =
     record {
       kept = tables_then c.args.tables.now a b i.kept grow;
       known = known_kept_in a b c.args.known grow i.known;
-      lists = lists_kept a.diagrams b.diagrams c.args.devices.now c.args.lists.now grow.diagrams i.lists;
+      before = before_kept a.diagrams b.diagrams c.args.devices.now c.args.before grow.diagrams i.before;
       forms = rw c.in_ok-push.ensures.items (devices_more a b c.args.devices.now c.loop-i.forms.items c.loop-i.i c.index-devices-i.result c.in_ok-form.form c.loop-i-test.true c.index-devices-i.is grow i.forms c.in_ok-form.ensures.form);
     }

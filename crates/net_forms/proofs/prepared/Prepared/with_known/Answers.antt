@@ -3,8 +3,8 @@ use Rattle.net_types.specs.World.{World}
 use Rattle.net_view.specs.Borrowed.{world_of}
 use Rattle.net_view.specs.declared.devices.WorldRef.{WorldRef}
 use Rattle.like_devices.specs.Like.{IsLike}
-use Rattle.net_forms.proofs.FormLemmas.{devices_kept, lists_kept}
-use Rattle.net_forms.proofs.prepared.Prepared.with_lists.Goals as goal
+use Rattle.net_forms.proofs.FormLemmas.{before_kept, devices_kept}
+use Rattle.net_forms.proofs.prepared.Prepared.with_known.Goals as goal
 
 pub invariant_of-result : goal.invariant_of-result
 invariant_of-result c =
@@ -18,5 +18,5 @@ invariant_of-result c =
       alike = subst (λ (w : World). All (IsLike w (world_of c.in_ok-after.after.world)) names) (sym a) (subst (λ (w : World). All (IsLike (world_of c.args.networks.old) w) names) (sym b) c.in_ok-like.ensures);
     }
 
-pub compile_network-requires-2-clause-lists : goal.compile_network-requires-2-clause-lists
-compile_network-requires-2-clause-lists c = lists_kept c.args.tables.diagrams c.compile_network.new.tables.diagrams c.args.networks.new.network.now.devices c.args.new_lists.now c.in_ok-before.ensures.kept.diagrams c.requires.new
+pub compile_network-requires-2-clause-before : goal.compile_network-requires-2-clause-before
+compile_network-requires-2-clause-before c = before_kept c.args.tables.diagrams c.compile_network.new.tables.diagrams c.args.networks.new.network.now.devices c.args.of_new c.in_ok-before.ensures.kept.diagrams c.requires.new
