@@ -11,7 +11,7 @@ use Rattle.net_types.specs.declared.network.NetDevice.{NetDevice}
 use Rattle.net_forms.specs.declared.forms.DeviceLists.{DeviceLists}
 use Rattle.net_forms.specs.declared.forms.KnownList.{KnownList}
 use Rattle.net_forms.specs.Forms.{IsKnown, IsList}
-use Rattle.net_forms.specs.Known.{AreKnownLists, known_at, lists_of}
+use Rattle.net_forms.specs.Known.{AreKnownLists, AreKnownPieces, known_at, lists_of}
 use Rattle.net_forms.proofs.FormLemmas.{list_kept}
 use Rattle.list_tables.specs.declared.lists.BothDevices.{BothDevices}
 use Rattle.list_tables.specs.declared.lists.ListPosition.{ListPosition}
@@ -79,3 +79,10 @@ module _ (fs : Functions) (ds : List NetDevice) where
             subst (λ (o : Option DeviceLists). All P (lists_of o)) (sym there) new
         | inr q ↦ subst (λ (o : Option DeviceLists). All (IsKnown fs d.config.lists) (lists_of o)) (sym (get_set_other known at.device n v q.1)) (a n d e)
       ]
+
+-- ---- what is known of pieces
+pub no_pieces : (ds : List NetDevice) → AreKnownPieces ds []
+no_pieces ds n d made e a = absurd cc
+
+pub same_item : {A : Type 0} (x y : A) → Some x ≡ Some y → x ≡ y
+same_item x y e = cc

@@ -1,4 +1,4 @@
--- Lists of networks that are made functions before the networks are compiled.
+-- Lists of networks that are made functions, and devices that are made pieces, before the networks are compiled.
 use Rattle.std.specs.Prelude.{List, Option, All, option_and_then, slice_get}
 use Rattle.cube_diagram.specs.Functions.{Functions}
 use Rattle.net_types.specs.declared.config.AccessList.{AccessList}
@@ -6,10 +6,11 @@ use Rattle.net_types.specs.declared.network.NetDevice.{NetDevice}
 use Rattle.net_forms.specs.declared.version.Version.{Version}
 use Rattle.net_forms.specs.declared.version.Version.TheVariants as version
 use Rattle.net_forms.specs.Forms.{IsList}
-use Rattle.net_forms.specs.Known.{AreKnownLists}
+use Rattle.net_forms.specs.Known.{AreKnownLists, AreKnownPieces}
 use Rattle.list_tables.specs.declared.known.KnownLists.{KnownLists}
 use Rattle.list_tables.specs.declared.lists.BothDevices.{BothDevices}
 use Rattle.list_tables.specs.declared.lists.ListPosition.{ListPosition}
+use Rattle.list_tables.specs.declared.prepared.KnownBoth.{KnownBoth}
 use Rattle.list_tables.specs.declared.shares.MadeList.{MadeList}
 use Rattle.list_tables.specs.declared.shares.MadeShare.{MadeShare}
 
@@ -34,3 +35,9 @@ IsMadeShare both share = All (IsMadeList share.table both) share.lists.items
 pub record AreKnown (both : BothDevices) (known : KnownLists) : Type 0 where
   pub old : AreKnownLists known.tables.diagrams both.old.now known.old_lists.items
   pub new : AreKnownLists known.tables.diagrams both.new.now known.new_lists.items
+
+-- so are the pieces that were made
+pub record AreKnownBoth (both : BothDevices) (known : KnownBoth) : Type 0 where
+  pub lists : AreKnown both known.lists
+  pub old_pieces : AreKnownPieces both.old.now known.old_pieces.items
+  pub new_pieces : AreKnownPieces both.new.now known.new_pieces.items

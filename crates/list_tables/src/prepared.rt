@@ -1,24 +1,36 @@
-//! Networks that are compiled once the workers have made the functions of their long lists.
+//! Networks that are compiled once the workers have made the functions of their long lists, and the pieces of their routes.
 
 ghost use Rattle.std.specs.Prelude.{◌≡◌, IfOk};
 ghost use Rattle.net_view.specs.Borrowed.{world_of};
-ghost use Rattle.net_forms.specs.Known.{AreKnownLists};
+ghost use Rattle.net_forms.specs.Known.{AreKnownLists, AreKnownPieces};
 ghost use Rattle.net_forms.specs.Networks.{IsFormedNetwork};
 ghost use Rattle.net_forms.specs.Pairs.{worlds_of};
-ghost use Rattle.list_tables.specs.Made.{AreKnown};
+ghost use Rattle.list_tables.specs.declared.lists.BothDevices.{BothDevices};
+ghost use Rattle.list_tables.specs.Made.{AreKnown, AreKnownBoth};
 
 use crate::known::{KnownLists, known_of, none_known};
 use crate::lists::BothDevices;
+use crate::pieces::pieces_by_workers;
 use crate::shares::made_by_workers;
-use crate::wanted::{have_one_worker, wanted_lists};
-use net_forms::{FormedNetwork, Networks, Prepared};
+use crate::wanted::{have_one_worker, known_devices, wanted_lists};
+use device_fates::MadePieces;
+use net_forms::{Beforehand, FormedNetwork, Networks, Prepared};
 use net_types::NoMemory;
 use net_view::WorldRef;
 use std::alloc::Global;
 use std::thread::Threads;
 use steal_pool::Workers;
 
-/// Compiles two networks, as `Prepared::of` does, whose long access lists are made functions by the workers.
+/// What is known of two networks before they are compiled.
+#[derive(Drop)]
+pub(crate) struct KnownBoth {
+    pub(crate) lists: KnownLists,
+    /// By the positions of the devices, as are those of the new network.
+    pub(crate) old_pieces: Vec<Option<MadePieces>>,
+    pub(crate) new_pieces: Vec<Option<MadePieces>>,
+}
+
+/// Compiles two networks, as `Prepared::of` does, whose long access lists and routes are prepared by the workers.
 ///
 /// It answers `NoMemory` only where there was none.
 pub fn prepared_by_workers<'a, R: Threads + Sync, G>(
@@ -59,52 +71,110 @@ fn known_by_workers<R: Threads + Sync, G>(
     by: &Workers<R, G>,
     alloc: Global,
     both: BothDevices,
+) -> Result<KnownBoth, NoMemory>
+    ensures { IfOk result (AreKnownBoth both.entry) }
+{
+    if by.count < 2 {
+        let nothing = nothing_made(alloc)?;
+        return Ok(nothing);
+    }
+    let known = known_devices(alloc, both)?;
+    let lists = lists_by_workers(by, alloc, both, &known)?;
+    let old_pieces = pieces_by_workers(by, alloc, both.old, &[])?;
+    let new_pieces = pieces_by_workers(by, alloc, both.new, &known)?;
+    Ok(KnownBoth {
+        lists,
+        old_pieces,
+        new_pieces,
+    })
+}
+
+fn nothing_made(alloc: Global) -> Result<KnownBoth, NoMemory>
+    ensures { IfOk result (λ known. (both : BothDevices) → AreKnownBoth both known) }
+{
+    let lists = none_known(alloc)?;
+    let old_pieces = Vec::new(alloc);
+    let new_pieces = Vec::new(alloc);
+    Ok(KnownBoth {
+        lists,
+        old_pieces,
+        new_pieces,
+    })
+}
+
+// The functions of long lists.
+fn lists_by_workers<R: Threads + Sync, G>(
+    by: &Workers<R, G>,
+    alloc: Global,
+    both: BothDevices,
+    known: &[bool],
 ) -> Result<KnownLists, NoMemory>
     ensures { IfOk result (AreKnown both.entry) }
 {
-    if by.count < 2 {
-        let none = none_known(alloc)?;
-        return Ok(none);
-    }
-    let wanted = wanted_lists(alloc, both, by.count)?;
+    let wanted = wanted_lists(alloc, both, known, by.count)?;
     if have_one_worker(&wanted) {
         let none = none_known(alloc)?;
         return Ok(none);
     }
     let made = made_by_workers(by, alloc, both, &wanted)?;
-    let known = known_of(alloc, both, &made)?;
-    Ok(known)
+    let lists = known_of(alloc, both, &made)?;
+    Ok(lists)
 }
 
 fn prepared_with<'a>(
     alloc: Global,
     networks: Networks<'a>,
-    known: KnownLists,
+    known: KnownBoth,
 ) -> Result<Prepared<'a>, NoMemory>
-    requires old { AreKnownLists known.tables.diagrams networks.old.network.now.devices known.old_lists.items }
-    requires new { AreKnownLists known.tables.diagrams networks.new.network.now.devices known.new_lists.items }
+    requires old { AreKnownLists known.lists.tables.diagrams networks.old.network.now.devices known.lists.old_lists.items }
+    requires new { AreKnownLists known.lists.tables.diagrams networks.new.network.now.devices known.lists.new_lists.items }
+    requires old_pieces { AreKnownPieces networks.old.network.now.devices known.old_pieces.items }
+    requires new_pieces { AreKnownPieces networks.new.network.now.devices known.new_pieces.items }
     ensures { IfOk result (λ p. p ≡ worlds_of networks.entry) }
 {
+    let KnownBoth {
+        lists,
+        old_pieces,
+        new_pieces,
+    } = known;
     let KnownLists {
         tables,
         old_lists,
         new_lists,
-    } = known;
-    Prepared::with_lists(alloc, tables, networks, &old_lists, &new_lists)
+    } = lists;
+    let of_old = Beforehand {
+        lists: &old_lists,
+        pieces: &old_pieces,
+    };
+    let of_new = Beforehand {
+        lists: &new_lists,
+        pieces: &new_pieces,
+    };
+    Prepared::with_known(alloc, tables, networks, of_old, of_new)
 }
 
 fn formed_with<'a>(
     alloc: Global,
     world: WorldRef<'a>,
-    known: KnownLists,
+    known: KnownBoth,
 ) -> Result<FormedNetwork<'a>, NoMemory>
-    requires { AreKnownLists known.tables.diagrams world.network.now.devices known.old_lists.items }
+    requires lists { AreKnownLists known.lists.tables.diagrams world.network.now.devices known.lists.old_lists.items }
+    requires pieces { AreKnownPieces world.network.now.devices known.old_pieces.items }
     ensures { IfOk result (IsFormedNetwork (world_of world.entry)) }
 {
+    let KnownBoth {
+        lists,
+        old_pieces,
+        ..
+    } = known;
     let KnownLists {
         tables,
         old_lists,
         ..
-    } = known;
-    FormedNetwork::with_lists(alloc, tables, world, &old_lists)
+    } = lists;
+    let before = Beforehand {
+        lists: &old_lists,
+        pieces: &old_pieces,
+    };
+    FormedNetwork::with_known(alloc, tables, world, before)
 }

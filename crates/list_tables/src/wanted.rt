@@ -22,24 +22,42 @@ pub(crate) struct WantedList {
     pub(crate) worker: usize,
 }
 
-/// The long lists that interfaces name, each with its worker. Of a device that both networks have alike it has those of the
-/// old one, since such a device is compiled once.
+/// Which devices of the new network the old one has alike, by their positions: such a device is compiled once.
+pub(crate) fn known_devices(alloc: Global, both: BothDevices) -> Result<Vec<bool>, NoMemory> {
+    let mut positions = IndexMap::new(alloc);
+    for i in 0..both.old.len() {
+        positions.insert(both.old[i].name, i)?;
+    }
+    let mut known = Vec::with_capacity(alloc, both.new.len())?;
+    for i in 0..both.new.len() {
+        known.push(is_known(both.old, &positions, &both.new[i]))?;
+    }
+    Ok(known)
+}
+
+/// Whether the device at this position is one of those.
+pub(crate) fn is_known_at(known: &[bool], position: usize) -> bool {
+    match known.get(position) {
+        Some(known) => *known,
+        None => false,
+    }
+}
+
+/// The long lists that interfaces name, each with its worker: those of the old network, and of the new one those of the devices
+/// that aren't known.
 pub(crate) fn wanted_lists(
     alloc: Global,
     both: BothDevices,
+    known: &[bool],
     workers: u32,
 ) -> Result<Vec<WantedList>, NoMemory> {
     let mut wanted = Vec::new(alloc);
-    let mut positions = IndexMap::new(alloc);
     for i in 0..both.old.len() {
-        let device = &both.old[i];
-        positions.insert(device.name, i)?;
-        add_wanted(device, Version::Old, i, &mut wanted)?;
+        add_wanted(&both.old[i], Version::Old, i, &mut wanted)?;
     }
     for i in 0..both.new.len() {
-        let device = &both.new[i];
-        if !is_known(both.old, &positions, device) {
-            add_wanted(device, Version::New, i, &mut wanted)?;
+        if !is_known_at(known, i) {
+            add_wanted(&both.new[i], Version::New, i, &mut wanted)?;
         }
     }
     // Two versions of a list stand together, and mostly with one worker, whose table has what they share once.
