@@ -4,6 +4,9 @@
 # is opened once, and changed 1,000 times, by a route at leaves, an entry at leaves, a route at spines, or one at a device off every
 # path: the milliseconds of the opening, microseconds of a change, and the pages of memory after the first change and after the last.
 # Words choose a fabric, as `16 250`, and how many changes.
+# The C library is told to give back to the system what is freed of 128 KB or more: else it keeps it, and the pages tell the greatest
+# memory that there was, with both tables of a copy, and not what is in use.
+export MALLOC_MMAP_THRESHOLD_=131072
 cd "$(dirname "$0")/.." || exit 1
 test=${DIQENYU_TEST_LIVE:-crates/test_live/out/test_live}
 bench=${DIQENYU_BENCH_LIVE:-crates/bench_live/out/bench_live}

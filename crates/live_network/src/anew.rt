@@ -11,7 +11,7 @@ use std::alloc::Global;
 /// How much is added at least before anything is copied.
 const LEAST: usize = 4096;
 
-/// Copies what is kept of the network to tables of its own where it has more than twice the size that it had when it was made: the
+/// Copies what is kept of the network to tables of its own where it has half as much again as it had when it was made: the
 /// ways that its places have, and nothing else. Without memory it stays as it is.
 pub fn settle(alloc: Global, world: WorldRef, live: &mut LiveWays)
     requires { IsLive (world_of world) live.old }
@@ -27,5 +27,5 @@ pub fn settle(alloc: Global, world: WorldRef, live: &mut LiveWays)
 
 fn has_grown(live: &LiveWays) -> bool {
     let size = size_of(&live.tables, &live.ways);
-    size.saturating_sub(live.made) > live.made.max(LEAST)
+    size.saturating_sub(live.made) > (live.made / 2).max(LEAST)
 }
