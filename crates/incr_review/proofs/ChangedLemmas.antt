@@ -168,7 +168,7 @@ module _ (w0 w1 : World) (f g : Functions) (scope set : ℕ) (c : WaysChange)
     (old : ArePlaceWays w0 f scope c.lists.now (get same_place c.before.now))
     (new : ArePlaceWays w1 f scope c.lists.now (get same_place c.after.now))
     (differs : DiffersOnlyAt w0 w1 c.device.now.name)
-    (stay : (p : Place) → (Contains c.device.now.numbers p.interface → ⊥) → get same_place c.after.now p ≡ get same_place c.before.now p)
+    (others : (p : Place) (h : Header) → p.device ≡ c.device.now.name → (Contains c.device.now.numbers p.interface → ⊥) → moves w0 p h ≡ moves w1 p h)
     (agree : AgreeAtNumbers f g set c (Contains c.device.now.numbers)) where
   by_ways : (p : Place) (h : Header) → IsHeader h → ((m : Move) → HasMoveIn f (before_at c p) h m ↔ HasMoveIn f (after_at c p) h m) → MovesAgree w0 w1 p h
   by_ways p h v a m =
@@ -187,7 +187,8 @@ module _ (w0 w1 : World) (f g : Functions) (scope set : ℕ) (c : WaysChange)
         by_ways p h v (subst (λ q. (m : Move) → HasMoveIn f (before_at c q) h m ↔ HasMoveIn f (after_at c q) h m) is (agree p.interface there h v n)))
     | inr t ↦ (
         let none : Contains c.device.now.numbers p.interface → ⊥ = λ i. (let s = to_any (λ k. k == p.interface) c.device.now.numbers p.interface i (eq-eqb p.interface p.interface refl) in let both : false ≡ true = sym t ∙ s in absurd cc) in
-        by_ways p h v (λ m. subst (λ o. HasMoveIn f (before_at c p) h m ↔ HasMoveIn f (option_and_then (slice_get c.lists.now) o) h m) (sym (stay p none)) (λ x. x, λ x. x)))
+        let same = others p h e none in
+        λ m. (subst (λ ms. Contains ms m) same, subst (λ ms. Contains ms m) (sym same)))
   ]
 
   agree_at : (p : Place) (h : Header) → IsHeader h → (InSet g set h → ⊥) → MovesAgree w0 w1 p h

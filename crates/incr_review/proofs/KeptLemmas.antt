@@ -1,92 +1,64 @@
 -- A review and its network as it is walked, over an edit.
-use Rattle.std.proofs.Common.{ℕ, zero, suc, ◌≡◌, ◌<◌, ◌≤◌, ◌++◌, ◌==◌, inl, inr, true, List, [], ◌∷◌, Option, Some, Ok, position, set, slice_get, filter, find, refl, ap, sym, ◌∙◌, subst, arith}
+use Rattle.std.proofs.Common.{ℕ, ◌≡◌, Bool, ◌<◌, ◌≤◌, ◌++◌, ◌==◌, inl, inr, true, List, Option, Some, Ok, position, length, set, slice_get, filter, find, refl, ap, sym, ◌∙◌, subst, arith}
 use Rattle.std.specs.Prelude.{Contains}
 use Rattle.std.proofs.lemmas.Bool.Decides.{nat_tests}
-use Rattle.hdr_bits.specs.Lists.{Extends}
-use Rattle.hdr_bits.proofs.ListLemmas.{extends_none, extends_then}
 use Rattle.indexmap.specs.IndexMap.{get}
-use Rattle.cube_diagram.specs.Functions.{Functions, Keeps, count_of}
+use Rattle.cube_diagram.specs.Functions.{Functions, Keeps}
+use Rattle.live_network.specs.declared.live.LiveWays.{LiveWays}
+use Rattle.live_network.specs.Live.{IsLive, IsRenewed}
+use Rattle.live_network.specs.Replaced.{IsReplaced}
+use Rattle.live_network.proofs.LiveLemmas.{grown, live_grown, live_later, renewed_then, ways_before}
+use Rattle.live_network.proofs.NetworkLemmas.{put_back, replaced_in, stands}
+use Rattle.live_network.proofs.ReplaceLemmas.{found_in}
 use Rattle.net_types.specs.declared.network.NetDevice.{NetDevice}
 use Rattle.net_types.specs.declared.network.Network.{Network}
 use Rattle.net_types.specs.declared.network.Place.{Place}
 use Rattle.net_types.specs.Edits.{DiffersOnlyAt, IsEdited}
 use Rattle.net_types.specs.World.{World, same_place}
 use Rattle.net_types.proofs.OneEdit.{edited_differs}
-use Rattle.net_forms.proofs.FindLemmas.{at_position}
-use Rattle.place_ways.specs.declared.ways.NetworkWays.{NetworkWays}
-use Rattle.place_ways.specs.Devices.{PutsDevice}
-use Rattle.place_ways.specs.Places.{ArePlaceWays, ArePositions, IsPosition}
-use Rattle.place_ways.proofs.PlaceLemmas.{positions_kept}
-use Rattle.set_walk.specs.declared.net.PlaceWays.{PlaceWays}
-use Rattle.set_walk.specs.Sets.{InSet}
-use Rattle.set_walk.proofs.SetLemmas.{kept_set, kept_below, keeps_then}
+use Rattle.net_forms.proofs.FindLemmas.{at_position, found}
+use Rattle.place_ways.specs.Places.{ArePlaceWays}
 use Rattle.incr_review.specs.declared.edits.Edit.{Edit}
-use Rattle.incr_review.specs.declared.live.LiveNetwork.{LiveNetwork}
 use Rattle.incr_review.specs.declared.regions.Region.{Region}
 use Rattle.incr_review.specs.Edited.{device_edited, device_of, edited, is_named, rules_edited, with_rules}
-use Rattle.incr_review.specs.Live.{AreWaysGiven, HaveNoRules, IsLive, IsRenewed, IsWalked}
+use Rattle.incr_review.specs.Live.{AreWaysGiven, HaveNoRules, IsWalked}
 use Rattle.incr_review.specs.Walking.{HaveWalked, IsBefore}
 use Rattle.incr_review.specs.Reviews.{IsKept, IsReview}
 use Rattle.incr_review.specs.Regions.{AreReviewed, StartsWith, stays}
 use Rattle.incr_review.specs.Again.{AreAgain, leaves}
-use Rattle.incr_review.proofs.AlikeLemmas.{found_in, passes_on}
+use Rattle.incr_review.proofs.PassLemmas.{passes_on}
 use Rattle.incr_review.proofs.EditLemmas.{device_is_edited, edited_there, made}
 use Rattle.incr_review.proofs.GroupLemmas.{in_set}
-use Rattle.incr_review.proofs.LiveLemmas.{alike_then, found_first, found_set, others_stay, positions_after, ways_given, ways_of_positions}
+use Rattle.incr_review.proofs.LiveLemmas.{others_alike, ways_given}
 use Rattle.incr_review.proofs.ReviewLemmas.{reviewed_after, reviewed_kept}
-
--- ---- tables and lists grow, and the same places have the same positions
-pub positions_later : (w : World) (f g : Functions) (scope : ℕ) (old new : List PlaceWays) (a b : Place → Option ℕ) → Keeps f g → scope < count_of f → Extends old new → ((p : Place) → b p ≡ a p) → ArePositions w f scope old a → ArePositions w g scope new b
-positions_later w f g scope old new a b k l x e at p = subst (IsPosition w g scope new p) (sym (e p)) (positions_kept w f g scope old new k l x a at p)
-
-pub live_later : (v w : World) (old new : LiveNetwork) → IsRenewed old new → ((p : Place) → get same_place new.ways.positions p ≡ get same_place old.ways.positions p) → IsLive v w old → IsLive v w new
-live_later v w old new r e a =
-    record {
-      wiring = r.wiring ∙ a.wiring;
-      alike = a.alike;
-      scope = subst (λ n. n < count_of new.tables.diagrams) (sym r.scope) (kept_below old.tables.diagrams new.tables.diagrams old.scope r.kept a.scope);
-      ways = subst (λ n. ArePositions w new.tables.diagrams n new.ways.lists.items (get same_place new.ways.positions)) (sym r.scope) (positions_later w old.tables.diagrams new.tables.diagrams old.scope old.ways.lists.items new.ways.lists.items (get same_place old.ways.positions) (get same_place new.ways.positions) r.kept a.scope r.lists e a.ways);
-      all = λ h. subst (λ n. InSet new.tables.diagrams n h) (sym r.scope) ((kept_set old.tables.diagrams new.tables.diagrams old.scope h r.kept a.scope).1 (a.all h));
-      plain = λ t. a.plain (sym r.plain ∙ t);
-    }
 
 pub review_later : (v : World) (network : Network) (t : ℕ) (f g : Functions) (rs : List Region) → Keeps f g → IsReview (record { baseline = v; edited = network; ttl = t; table = f; regions = rs }) → IsReview (record { baseline = v; edited = network; ttl = t; table = g; regions = rs })
 review_later v network t f g rs k a = record { least = a.least; reviewed = reviewed_kept v (record { network = network; links = v.links }) t v.links.ingress f g rs k a.reviewed }
 
-pub kept_later : (v : World) (network : Network) (t : ℕ) (old new : LiveNetwork) (rs : List Region) → IsRenewed old new → ((p : Place) → get same_place new.ways.positions p ≡ get same_place old.ways.positions p) → IsKept v network t old rs → IsKept v network t new rs
-kept_later v network t old new rs r e a =
-    record { review = review_later v network t old.tables.diagrams new.tables.diagrams rs r.kept a.review; live_is = live_later v (record { network = network; links = v.links }) old new r e a.live_is }
-
-pub walked_renewed : (old new : LiveNetwork) → IsWalked old new → IsRenewed old new
-walked_renewed old new w =
-    record { wiring = w.wiring; scope = w.scope; plain = w.plain; lists = subst (λ (z : NetworkWays). Extends old.ways.lists.items z.lists.items) (sym w.ways) (extends_none old.ways.lists.items); kept = w.kept }
-
-pub renewed_then : (a b c : LiveNetwork) → IsRenewed a b → IsRenewed b c → IsRenewed a c
-renewed_then a b c x y =
+pub kept_later : (v : World) (network : Network) (t : ℕ) (old new : LiveWays) (plain : Bool) (rs : List Region) → IsRenewed old new → ((p : Place) → get same_place new.ways.positions p ≡ get same_place old.ways.positions p) → IsKept v network t old plain rs → IsKept v network t new plain rs
+kept_later v network t old new plain rs r e a =
     record {
-      wiring = y.wiring ∙ x.wiring;
-      scope = y.scope ∙ x.scope;
-      plain = y.plain ∙ x.plain;
-      lists = extends_then a.ways.lists.items b.ways.lists.items c.ways.lists.items x.lists y.lists;
-      kept = keeps_then a.tables.diagrams b.tables.diagrams c.tables.diagrams x.kept y.kept;
+      review = review_later v network t old.tables.diagrams new.tables.diagrams rs r.kept a.review;
+      live_is = live_later (record { network = network; links = v.links }) old new r e a.live_is;
+      plain_is = a.plain_is;
     }
 
--- ---- put back
-pub set_back : {A : Type 0} (xs : List A) (i : ℕ) (x y : A) → slice_get xs i ≡ Some x → set (set xs i y) i x ≡ xs
-set_back [] i x y e = refl
-set_back (z ∷ xs) zero x y e = ap (λ u. u ∷ xs) (let s : z ≡ x = cc in sym s)
-set_back (z ∷ xs) (suc i) x y e = ap (λ us. z ∷ us) (set_back xs i x y e)
+pub walked_later : (a b c : LiveWays) → IsRenewed a b → IsWalked b c → IsRenewed a c
+walked_later a b c r w = renewed_then a b c r (grown b c w.scope w.ways w.kept)
 
 -- ---- the edited device
 nat_same : (e : Edit) (x y : NetDevice) → device_edited e x ≡ Ok y → y.config.nat ≡ x.config.nat
 nat_same e x y q = let m = made (with_rules x) (rules_edited e x.config) y q in ap (λ (z : NetDevice). z.config.nat) (sym m.gives)
 
-module _ (v : World) (network after : Network) (e : Edit) (i : ℕ) (x y : NetDevice)
-    (first : position (is_named (device_of e)) network.devices ≡ Some i)
-    (there : slice_get network.devices i ≡ Some x)
-    (y_is : device_edited e x ≡ Ok y)
-    (ok : edited e network ≡ Ok after)
-    (after_is : after ≡ record { devices = set network.devices i y }) where
+-- the device at the position is the first one that the edit names, and the edited one stands in its place
+pub record IsMade (network after : Network) (e : Edit) (i : ℕ) (x y : NetDevice) : Type 0 where
+  pub first : position (is_named (device_of e)) network.devices ≡ Some i
+  pub there : slice_get network.devices i ≡ Some x
+  pub device : device_edited e x ≡ Ok y
+  pub ok : edited e network ≡ Ok after
+  pub after_is : after ≡ record { devices = set network.devices i y }
+
+module _ {network after : Network} {e : Edit} {i : ℕ} {x y : NetDevice} (v : World) (put : IsMade network after e i x y) where
   abbrev w0 : World
   w0 = record { network = network; links = v.links }
 
@@ -97,10 +69,10 @@ module _ (v : World) (network after : Network) (e : Edit) (i : ℕ) (x y : NetDe
   d = device_of e
 
   pub differs : DiffersOnlyAt w0 w1 d
-  differs = edited_differs w0 w1 d refl (edited_there e network after ok)
+  differs = edited_differs w0 w1 d refl (edited_there e network after put.ok)
 
   found0 : find (is_named d) network.devices ≡ Some x
-  found0 = found_first d network.devices i x first there
+  found0 = found (is_named d) network.devices i x (sym put.first) (sym put.there)
 
   pub x_named : x.name ≡ d
   x_named = let t = (found_in (is_named d) network.devices x found0).1 in name_of t
@@ -109,64 +81,50 @@ module _ (v : World) (network after : Network) (e : Edit) (i : ℕ) (x y : NetDe
       name_of t = grind (arith, nat_tests, t)
 
   pub x_edited : IsEdited d x y
-  x_edited = device_is_edited e x y x_named y_is
+  x_edited = device_is_edited e x y x_named put.device
 
   pub y_named : y.name ≡ d
   y_named = sym x_edited.name ∙ x_named
 
+  pub replaced : IsReplaced w0 w1 x y
+  replaced = replaced_in network after i y put.after_is v.links x (subst (λ n. position (λ (z : NetDevice). z.name == n) network.devices ≡ Some i) (sym y_named) put.first) put.there
+
+  within : i < length network.devices
+  within = (at_position (is_named d) network.devices i (sym put.first)).1
+
+  pub live_after : {j : ℕ} → j ≡ i → {old new : LiveWays} → ((u : World) (z : NetDevice) → slice_get after.devices j ≡ Some z → IsReplaced u w1 x z → IsLive u old → IsLive w1 new) → IsLive w0 old → IsLive w1 new
+  live_after q by a = by w0 y (ap (slice_get after.devices) q ∙ stands network after i y put.after_is within) replaced a
+
   found1 : find (is_named d) after.devices ≡ Some y
-  found1 = ap (λ (n : Network). find (is_named d) n.devices) after_is ∙ found_set d network.devices i x y first there x_edited.name
+  found1 = subst (λ n. find (λ (z : NetDevice). z.name == n) after.devices ≡ Some y) y_named replaced.after
 
   rules_after : HaveNoRules network.devices → HaveNoRules after.devices
   rules_after none z c =
-      let within = (at_position (is_named d) network.devices i (sym first)).1 in
-      elim (in_set network.devices i y z within (subst (λ (n : Network). Contains n.devices z) after_is c)) [
-        | inl q ↦ ap (λ (u : NetDevice). u.config.nat) (sym q) ∙ (nat_same e x y y_is ∙ none x (found_in (is_named d) network.devices x found0).0)
+      elim (in_set network.devices i y z within (subst (λ (n : Network). Contains n.devices z) put.after_is c)) [
+        | inl q ↦ ap (λ (u : NetDevice). u.config.nat) (sym q) ∙ (nat_same e x y put.device ∙ none x (found_in (is_named d) network.devices x found0).0)
         | inr m ↦ none z m
       ]
 
-  module _ (old new : LiveNetwork) (a : IsLive v w0 old) (r : IsRenewed old new) (put : PutsDevice old.wiring new.tables.diagrams old.scope new.ways.lists.items y (get same_place old.ways.positions) (get same_place new.ways.positions)) where
-    puts : PutsDevice v new.tables.diagrams old.scope new.ways.lists.items y (get same_place old.ways.positions) (get same_place new.ways.positions)
-    puts = subst (λ (w : World). PutsDevice w new.tables.diagrams old.scope new.ways.lists.items y (get same_place old.ways.positions) (get same_place new.ways.positions)) a.wiring put
-
-    placed : ArePositions w1 new.tables.diagrams old.scope new.ways.lists.items (get same_place new.ways.positions)
-    placed = positions_after v w0 w1 d x y old.tables.diagrams new.tables.diagrams old.scope old.ways.lists.items new.ways.lists.items (get same_place old.ways.positions) (get same_place new.ways.positions) a.alike differs found0 found1 x_edited y_named r.kept a.scope r.lists a.ways puts
-
-    pub live_after : IsLive v w1 new
-    live_after =
-        record {
-          wiring = r.wiring ∙ a.wiring;
-          alike = alike_then v w0 w1 d a.alike differs;
-          scope = subst (λ n. n < count_of new.tables.diagrams) (sym r.scope) (kept_below old.tables.diagrams new.tables.diagrams old.scope r.kept a.scope);
-          ways = subst (λ n. ArePositions w1 new.tables.diagrams n new.ways.lists.items (get same_place new.ways.positions)) (sym r.scope) placed;
-          all = λ h. subst (λ n. InSet new.tables.diagrams n h) (sym r.scope) ((kept_set old.tables.diagrams new.tables.diagrams old.scope h r.kept a.scope).1 (a.all h));
-          plain = λ t. rules_after (a.plain (sym r.plain ∙ t));
-        }
-
+  module _ {old new : LiveWays} (a : IsLive w0 old) (b : IsLive w1 new) (r : IsRenewed old new) where
     -- ---- walked again
-    module _ (t : ℕ) (b : Place → Option ℕ) (rs : List Region) (before : (p : Place) → b p ≡ get same_place old.ways.positions p) where
-      positions_before : ArePositions w0 new.tables.diagrams new.scope new.ways.lists.items b
-      positions_before =
-          subst (λ n. ArePositions w0 new.tables.diagrams n new.ways.lists.items b) (sym r.scope)
-          (positions_later w0 old.tables.diagrams new.tables.diagrams old.scope old.ways.lists.items new.ways.lists.items (get same_place old.ways.positions) b r.kept a.scope r.lists before a.ways)
+    module _ (t : ℕ) (plain : Bool) (known : plain ≡ true → HaveNoRules network.devices) (at : Place → Option ℕ) (rs : List Region) (before : (p : Place) → at p ≡ get same_place old.ways.positions p) where
+      ways_there : ArePlaceWays w0 new.tables.diagrams new.scope new.ways.lists.items at
+      ways_there = ways_before w0 old new at r before a
 
-      ways_before : ArePlaceWays w0 new.tables.diagrams new.scope new.ways.lists.items b
-      ways_before = ways_of_positions w0 new.tables.diagrams new.scope new.ways.lists.items b live_after.scope live_after.all positions_before
+      pub given_before : AreWaysGiven new.tables.diagrams new.ways.lists.items at
+      given_before = ways_given w0 new.tables.diagrams new.scope new.ways.lists.items at ways_there
 
-      pub given_before : AreWaysGiven new.tables.diagrams new.ways.lists.items b
-      given_before = ways_given w0 new.tables.diagrams new.scope new.ways.lists.items b ways_before
-
-      is_before : IsBefore new.tables.diagrams (record { world = w1; scope = new.scope; lists = new.ways.lists.items; before = b; after = get same_place new.ways.positions; device = x; plain = new.plain; ttl = t }) w0
+      is_before : IsBefore new.tables.diagrams (record { world = w1; scope = new.scope; lists = new.ways.lists.items; before = at; after = get same_place new.ways.positions; device = x; plain = plain; ttl = t }) w0
       is_before =
           record {
-            ways = ways_before;
+            ways = ways_there;
             differs = subst (DiffersOnlyAt w0 w1) (sym x_named) differs;
-            plain = λ q. passes_on w0 (a.plain (sym r.plain ∙ q));
-            others = λ p none. others_stay v new.tables.diagrams old.scope new.ways.lists.items d x y (get same_place old.ways.positions) (get same_place new.ways.positions) x_edited puts p none ∙ sym (before p);
+            plain = λ q. passes_on w0 (known q);
+            others = λ p h e none. others_alike w0 w1 d x y found0 found1 x_edited.numbers p h (e ∙ x_named) none;
           }
 
-      module _ (last : LiveNetwork) (rs2 : List Region) (review : IsReview (record { baseline = v; edited = network; ttl = t; table = old.tables.diagrams; regions = rs })) (w : IsWalked new last)
-          (walked : HaveWalked new.tables.diagrams (record { world = w1; scope = new.scope; lists = new.ways.lists.items; before = b; after = get same_place new.ways.positions; device = x; plain = new.plain; ttl = t }) last.tables.diagrams rs rs2) where
+      module _ {last : LiveWays} {rs2 : List Region} (review : IsReview (record { baseline = v; edited = network; ttl = t; table = old.tables.diagrams; regions = rs })) (w : IsWalked new last)
+          (walked : HaveWalked new.tables.diagrams (record { world = w1; scope = new.scope; lists = new.ways.lists.items; before = at; after = get same_place new.ways.positions; device = x; plain = plain; ttl = t }) last.tables.diagrams rs rs2) where
         before_there : AreReviewed v w0 t v.links.ingress new.tables.diagrams rs
         before_there = reviewed_kept v w0 t v.links.ingress old.tables.diagrams new.tables.diagrams rs r.kept review.reviewed
 
@@ -188,21 +146,21 @@ module _ (v : World) (network after : Network) (e : Edit) (i : ℕ) (x y : NetDe
                   (reviewed_after v w0 w1 t v.links.ingress new.tables.diagrams last.tables.diagrams d rs walked.more differs w.kept before_there again);
             }
 
-        pub kept_after : IsKept v after t last rs2
-        kept_after = record { review = review_after; live_is = live_later v w1 new last (walked_renewed new last w) (λ p. ap (λ (z : NetworkWays). get same_place z.positions p) w.ways) live_after }
+        pub kept_after : IsKept v after t last plain rs2
+        kept_after =
+            record {
+              review = review_after;
+              live_is = live_grown w1 new last w.scope w.ways w.kept b;
+              plain_is = λ q. rules_after (known q);
+            }
 
-pub kept_opened : (v : World) (t : ℕ) (old new : LiveNetwork) (rs : List Region) → 1 ≤ t → IsLive v v old → IsWalked old new → AreReviewed v v t v.links.ingress new.tables.diagrams rs → IsKept v v.network t new rs
-kept_opened v t old new rs least a w reviewed =
+pub kept_opened : (v : World) (t : ℕ) (old new : LiveWays) (plain : Bool) (rs : List Region) → 1 ≤ t → IsLive v old → (plain ≡ true → HaveNoRules v.network.devices) → IsWalked old new → AreReviewed v v t v.links.ingress new.tables.diagrams rs → IsKept v v.network t new plain rs
+kept_opened v t old new plain rs least a known w reviewed =
     record {
       review = record { least = least; reviewed = reviewed };
-      live_is = live_later v v old new (walked_renewed old new w) (λ p. ap (λ (z : NetworkWays). get same_place z.positions p) w.ways) a;
+      live_is = live_grown v old new w.scope w.ways w.kept a;
+      plain_is = known;
     }
 
 pub back_again : (network after last : Network) (i j : ℕ) (x y : NetDevice) → after ≡ record { devices = set network.devices i y } → j ≡ i → last ≡ record { devices = set after.devices j x } → slice_get network.devices i ≡ Some x → last ≡ network
-back_again network after last i j x y a b c d =
-    let one : last ≡ record { devices = set (set network.devices i y) i x } = c ∙ (λ k. record { devices = set ((a k).devices) (b k) x }) in
-    let two : record { devices = set (set network.devices i y) i x } ≡ network = ap put_devices (set_back network.devices i x y d) in
-    one ∙ two
-  where
-    put_devices : List NetDevice → Network
-    put_devices ds = record { devices = ds }
+back_again network after last i j x y a b c d = put_back network after i y a x last d (c ∙ (λ k. record { devices = set after.devices (b k) x }))

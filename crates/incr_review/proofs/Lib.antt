@@ -10,7 +10,7 @@ pub mod GroupLemmas
 pub mod ReviewLemmas
 pub mod SectionLemmas
 pub mod CountLemmas
-pub mod AlikeLemmas
+pub mod PassLemmas
 pub mod LiveLemmas
 pub mod ChangedLemmas
 pub mod SplitLemmas

@@ -1,15 +1,16 @@
 -- A review.
-use Rattle.std.specs.Prelude.{ℕ, ◌≡◌, ◌≤◌, List, length}
+use Rattle.std.specs.Prelude.{ℕ, ◌≡◌, ◌≤◌, Bool, true, List, length}
 use Rattle.std.specs.List.{sum_by}
 use Rattle.cube_diagram.specs.Functions.{Functions}
+use Rattle.live_network.specs.declared.live.LiveWays.{LiveWays}
+use Rattle.live_network.specs.Live.{IsLive}
 use Rattle.net_types.specs.declared.network.Network.{Network}
 use Rattle.net_types.specs.declared.network.Place.{Place}
 use Rattle.net_types.specs.declared.network.Section.{Section}
 use Rattle.net_types.specs.World.{World}
 use Rattle.net_types.specs.Report.{IsReport}
 use Rattle.incr_review.specs.declared.regions.Region.{Region}
-use Rattle.incr_review.specs.declared.live.LiveNetwork.{LiveNetwork}
-use Rattle.incr_review.specs.Live.{IsLive}
+use Rattle.incr_review.specs.Live.{HaveNoRules}
 use Rattle.incr_review.specs.Regions.{AreReviewed}
 
 -- the old network with the links, the edited network, the TTL, and the regions, whose sets are functions of the table
@@ -45,7 +46,8 @@ pub record HasRows (r : ReviewState) (count : ℕ) : Type 0 where
   pub report : IsReport r.baseline.links.ingress r.baseline (edited_world r) r.ttl sections
   pub count_is : count ≡ row_total sections
 
--- all that is kept: the review, and the edited network as it is walked
-pub record IsKept (baseline : World) (edited : Network) (t : ℕ) (live : LiveNetwork) (regions : List Region) : Type 0 where
+-- all that is kept: the review, the ways of the edited network, and whether it is known that no device translates
+pub record IsKept (baseline : World) (edited : Network) (t : ℕ) (live : LiveWays) (plain : Bool) (regions : List Region) : Type 0 where
   pub review : IsReview (record { baseline = baseline; edited = edited; ttl = t; table = live.tables.diagrams; regions = regions })
-  pub live_is : IsLive baseline (record { network = edited; links = baseline.links }) live
+  pub live_is : IsLive (record { network = edited; links = baseline.links }) live
+  pub plain_is : plain ≡ true → HaveNoRules edited.devices

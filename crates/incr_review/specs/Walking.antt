@@ -4,9 +4,11 @@ use Rattle.indexmap.specs.IndexMap.{get}
 use Rattle.hdr_bits.specs.declared.header.Header.{Header}
 use Rattle.hdr_bits.specs.HeaderBits.{IsHeader}
 use Rattle.cube_diagram.specs.Functions.{Functions}
+use Rattle.live_network.specs.declared.live.LiveWays.{LiveWays}
 use Rattle.net_types.specs.declared.network.NetDevice.{NetDevice}
 use Rattle.net_types.specs.declared.network.Place.{Place}
 use Rattle.net_types.specs.Edits.{DiffersOnlyAt}
+use Rattle.net_types.specs.Moves.{moves}
 use Rattle.net_types.specs.SameWalks.{SameWalksUnder}
 use Rattle.net_types.specs.World.{World, same_place}
 use Rattle.net_view.specs.Borrowed.{world_of}
@@ -15,7 +17,6 @@ use Rattle.set_walk.specs.declared.net.PlaceWays.{PlaceWays}
 use Rattle.set_walk.specs.Nets.{IsNet}
 use Rattle.set_walk.specs.Sets.{InSet}
 use Rattle.incr_review.specs.declared.live.Change.{Change}
-use Rattle.incr_review.specs.declared.live.LiveNetwork.{LiveNetwork}
 use Rattle.incr_review.specs.declared.regions.Region.{Region}
 use Rattle.incr_review.specs.declared.walks.Again.{Again}
 use Rattle.incr_review.specs.Again.{AreAgain, leaves}
@@ -37,16 +38,16 @@ pub record Step : Type 0 where
 abbrev pub step_of : Again → Step
 step_of a = record { world = world_of a.net.now.world; scope = a.net.now.scope; lists = a.net.now.lists.now; before = get same_place a.before.now; after = get same_place a.net.now.places.now; device = a.device.now; plain = a.plain; ttl = a.ttl }
 
-abbrev pub live_step : LiveNetwork → World → Change → Step
-live_step n w c = record { world = w; scope = n.scope; lists = n.ways.lists.items; before = get same_place c.before.now; after = get same_place n.ways.positions; device = c.device.now; plain = n.plain; ttl = c.ttl }
+abbrev pub live_step : LiveWays → World → Change → Step
+live_step n w c = record { world = w; scope = n.scope; lists = n.ways.lists.items; before = get same_place c.before.now; after = get same_place n.ways.positions; device = c.device.now; plain = c.plain; ttl = c.ttl }
 
 -- this is the network before the edit: it had the ways at the positions of before, and the edited one differs from it at the device
--- alone. A place that is none of the device's numbers has the position that it had
+-- alone. At a place that is none of the device's numbers the device moves headers as before
 pub record IsBefore (fs : Functions) (s : Step) (w : World) : Type 0 where
   pub ways : ArePlaceWays w fs s.scope s.lists s.before
   pub differs : DiffersOnlyAt w s.world s.device.name
   pub plain : s.plain ≡ true → PassesOn w
-  pub others : (p : Place) → (Contains s.device.numbers p.interface → ⊥) → s.after p ≡ s.before p
+  pub others : (p : Place) (h : Header) → p.device ≡ s.device.name → (Contains s.device.numbers p.interface → ⊥) → moves w p h ≡ moves s.world p h
 
 -- a header outside the set walks as before
 abbrev pub IsChangedSet : Functions → Step → Functions → ℕ → Type 0

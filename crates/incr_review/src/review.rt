@@ -4,9 +4,10 @@ ghost use Rattle.std.specs.Prelude.{◌≡◌, ◌≤◌, ◌<◌, ◌^◌, leng
 
 use crate::edited::{edited_device, swap_device};
 use crate::edits::{Edit, EditFail};
-use crate::live::{Change, LiveNetwork, live_network, open_regions, renew, walk_live};
+use crate::live::{Change, have_no_rules, open_regions, walk_live};
 use crate::regions::{Region, Touched};
 use crate::sections::{rows_of_sections, sections_of};
+use live_network::{LiveWays, open_ways, replace_at};
 use net_types::{Duplicate, Links, Network, NoMemory, Section};
 use net_view::WorldRef;
 use std::alloc::Global;
@@ -22,8 +23,10 @@ pub struct Review<'a> {
     baseline: WorldRef<'a>,
     edited: Network,
     ttl: u8,
-    /// The edited network as it is walked, with the table that has the sets of the regions.
-    live: LiveNetwork<'a>,
+    /// The ways of the edited network, with the table that has the sets of the regions too.
+    live: LiveWays,
+    /// Whether it is known that no device translates.
+    plain: bool,
     regions: Vec<Region>,
 }
 
@@ -37,7 +40,7 @@ impl<'a> Model for Review<'a> {
 
     ghost view = { λ r. record { baseline = world_of r.baseline; edited = r.edited; ttl = r.ttl; table = r.live.tables.diagrams; regions = r.regions.items } };
 
-    ghost invariant = { λ r. IsKept (world_of r.baseline) r.edited r.ttl r.live r.regions.items };
+    ghost invariant = { λ r. IsKept (world_of r.baseline) r.edited r.ttl r.live r.plain r.regions.items };
 }
 
 impl<'a> Review<'a> {
@@ -72,13 +75,15 @@ impl<'a> Review<'a> {
             links,
         };
         let edited = old.copy(alloc)?;
-        let mut live = live_network(alloc, world)?;
+        let plain = have_no_rules(old.devices.as_slice());
+        let mut live = open_ways(alloc, world)?;
         let regions = open_regions(alloc, &mut live, world, ttl)?;
         Ok(Review {
             baseline: world,
             edited,
             ttl,
             live,
+            plain,
             regions,
         })
     }
@@ -106,15 +111,19 @@ impl<'a> Review<'a> {
         ensures as_before { OnErr result (self.new ≡ record self.old { table = self.new.table }) }
     {
         let changed = edited_device(alloc, &self.edited, edit)?;
-        let before = renew(alloc, &mut self.live, &changed.device)?;
         let old = swap_device(alloc, &mut self.edited, changed);
         let world = WorldRef {
             network: &self.edited,
             links: self.baseline.links,
         };
+        let Ok(before) = replace_at(alloc, &mut self.live, world, &old.device, old.position) else {
+            swap_device(alloc, &mut self.edited, old);
+            return Err(EditFail::NoMemory);
+        };
         let change = Change {
             before: &before,
             device: &old.device,
+            plain: self.plain,
             ttl: self.ttl,
         };
         match walk_live(alloc, &mut self.live, world, change, &mut self.regions) {

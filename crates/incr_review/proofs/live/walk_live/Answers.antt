@@ -6,7 +6,7 @@ use Rattle.net_view.specs.Borrowed.{world_of}
 use Rattle.set_walk.specs.declared.net.PlaceWays.{PlaceWays}
 use Rattle.set_walk.specs.Nets.{AreWays}
 use Rattle.incr_review.specs.Live.{AreWaysGiven}
-use Rattle.incr_review.proofs.LiveLemmas.{ways_of_positions}
+use Rattle.live_network.proofs.LiveLemmas.{ways_of_live}
 use Rattle.incr_review.proofs.live.walk_live.Goals as goal
 
 pub walk_again-requires-clause-net : goal.walk_again-requires-clause-net
@@ -14,7 +14,7 @@ walk_again-requires-clause-net c =
     let n = c.args.live.now in
     let w = world_of c.args.world in
     subst (λ (ls : List PlaceWays). AreWays w n.tables.diagrams n.scope (λ p. option_and_then (slice_get ls) (get same_place n.ways.positions p))) (sym c.deref.ensures.value)
-    (ways_of_positions w n.tables.diagrams n.scope n.ways.lists.items (get same_place n.ways.positions) c.requires.scope c.requires.all c.requires.ways)
+    (ways_of_live w n c.requires.live)
 
 pub walk_again-requires-clause-before : goal.walk_again-requires-clause-before
 walk_again-requires-clause-before c =

@@ -1,6 +1,5 @@
 use Rattle.std.proofs.Common.{sym, subst, List, take, refl}
 use Rattle.std.specs.Prelude.{Contains}
-use denote.Ref.{Bor}
 use Rattle.incr_review.specs.declared.regions.Region.{Region}
 use Rattle.incr_review.specs.Sections.{ArePairsOf, regions_at}
 use Rattle.incr_review.proofs.SectionLemmas.{pairs_more, pairs_passed, pointed_at, pointed_more}
