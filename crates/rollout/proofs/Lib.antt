@@ -1,2 +1,3 @@
 mod StepLemmas
 mod TouchedLemmas
+mod ChangeLemmas

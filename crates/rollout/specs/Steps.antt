@@ -8,6 +8,7 @@ use Rattle.net_types.specs.declared.question.Answer.TheVariants as answer
 use Rattle.net_types.specs.declared.question.Question.{Question}
 use Rattle.net_types.specs.Questions.{IsAnswer}
 use Rattle.net_types.specs.World.{World}
+use Rattle.rollout.specs.declared.network.Step.{Step}
 use Rattle.rollout.specs.declared.steps.RolloutAnswer.{RolloutAnswer}
 use Rattle.rollout.specs.declared.steps.RolloutAnswer.TheVariants as rollout
 
@@ -17,6 +18,11 @@ device_after change device = if device.name == change.name then change else devi
 
 abbrev pub network_after : NetDevice → Network → Network
 network_after change network = record { devices = map (device_after change) network.devices }
+
+-- the second network of the step is the one after the change, and has the links of the first
+pub record IsStep (s : Step) : Type 0 where
+  pub network : s.networks.new.network.now ≡ network_after s.change.now s.networks.old.network.now
+  pub links : s.networks.old.links.now ≡ s.networks.new.links.now
 
 -- *Steps*: the network before all changes, and the one after each of them
 abbrev pub networks : Network → List NetDevice → List Network

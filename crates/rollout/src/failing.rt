@@ -1,18 +1,20 @@
 //! The first question that a network doesn't meet, asked of it alone or behind a network that meets all.
 
-ghost use Rattle.std.specs.Prelude.{ℕ, ◌≡◌, ◌≤◌, ◌<◌, ◌^◌, List, IfOk, length};
+ghost use Rattle.std.specs.Prelude.{ℕ, ◌≡◌, ◌≤◌, ◌<◌, ◌^◌, List, IfOk, OnOk, length};
+ghost use Rattle.live_network.specs.Live.{IsLive};
 ghost use Rattle.net_types.specs.Questions.{AreAnswers};
 ghost use Rattle.net_types.specs.World.{World};
 ghost use Rattle.net_view.specs.Borrowed.{world_of};
 ghost use Rattle.rollout.specs.Failing.{IsFirstFailure};
-ghost use Rattle.rollout.specs.Steps.{AllHold};
+ghost use Rattle.rollout.specs.Steps.{AllHold, IsStep};
 ghost use Rattle.rollout.specs.Touched.{asked_again, with_others};
 
+use crate::network::Step;
 use crate::touched::touched;
-use ask_query::answer;
+use ask_query::answers_by;
 use hdr_bits::Header;
-use net_forms::Networks;
-use net_types::{Answer, Links, Network, NoMemory, Question};
+use live_network::{LiveWays, net_of, settle};
+use net_types::{Answer, NoMemory, Question};
 use net_view::WorldRef;
 use std::alloc::Global;
 use std::sync::Wait;
@@ -28,59 +30,70 @@ pub(crate) struct Failure {
     pub header: Header,
 }
 
-/// The first of the questions that fails in a network, where one does.
+/// The first of the questions that fails in a network of which this is kept, where one does.
 pub(crate) fn failure_in<G: Gate + Sync, R: Threads + Wait + Sync>(
     by: &Workers<R, G>,
     alloc: Global,
-    network: &Network,
-    links: &Links,
+    live: &LiveWays,
+    world: WorldRef,
     questions: &[Question],
     ttl: u8,
 ) -> Result<Option<Failure>, NoMemory>
+    requires live { IsLive (world_of world) live.now }
     requires ttl { 1 ≤ ttl }
     requires few { length questions.now < 2 ^ 32 }
-    ensures { IfOk result (IsFirstFailure ttl questions.now (record { network = network.now; links = links.now })) }
+    ensures { IfOk result (IsFirstFailure ttl questions.now (world_of world.entry)) }
 {
-    let answers = answer(by, alloc, network, links, questions, ttl)?;
+    let answers = answers_in(by, alloc, live, world, questions, ttl)?;
     Ok(first_failure(&answers))
 }
 
-/// The first of the questions that fails in the new network, where one does. In the old one each of them holds, so those alone are
-/// asked again that the step from the one to the other may touch.
+/// The first of the questions that fails after the step, where one does. Before it each of them holds, so those alone are asked
+/// again that the step may touch. What is kept of the network before the step becomes what is kept of the one after it.
 pub(crate) fn failure_after<G: Gate + Sync, R: Threads + Wait + Sync>(
     by: &Workers<R, G>,
     alloc: Global,
-    networks: Networks,
+    live: &mut LiveWays,
+    step: Step,
     questions: &[Question],
     ttl: u8,
 ) -> Result<Option<Failure>, NoMemory>
+    requires live { IsLive (world_of step.networks.old) live.old }
+    requires step { IsStep step }
     requires ttl { 1 ≤ ttl }
     requires few { length questions.now < 2 ^ 32 }
-    requires hold { AllHold ttl questions.now (world_of networks.old) }
-    ensures { IfOk result (IsFirstFailure ttl questions.now (world_of networks.entry.new)) }
+    requires hold { AllHold ttl questions.now (world_of step.networks.old) }
+    ensures failure { IfOk result (IsFirstFailure ttl questions.now (world_of step.entry.networks.new)) }
+    ensures live { OnOk result (IsLive (world_of step.entry.networks.new) live.new) }
 {
-    let touched = touched(by, alloc, networks, questions)?;
+    let touched = touched(alloc, live, step, questions)?;
     let asked = asked_again(alloc, questions, &touched)?;
-    let told = answers_in(by, alloc, networks.new, &asked, ttl)?;
+    let told = answers_in(by, alloc, live, step.networks.new, &asked, ttl)?;
     let answers = with_others(alloc, &touched, told)?;
+    settle(alloc, step.networks.new, live);
     Ok(first_failure(&answers))
 }
 
-// The answers in a network, which is compiled only where there is a question.
+// The answers in a network of which this is kept.
 fn answers_in<G: Gate + Sync, R: Threads + Wait + Sync>(
     by: &Workers<R, G>,
     alloc: Global,
+    live: &LiveWays,
     world: WorldRef,
     questions: &[Question],
     ttl: u8,
 ) -> Result<Vec<Answer>, NoMemory>
-    requires { 1 ≤ ttl }
+    requires live { IsLive (world_of world) live.now }
+    requires ttl { 1 ≤ ttl }
     ensures { IfOk result (λ answers. AreAnswers (world_of world.entry) ttl questions.now answers.items) }
 {
     if questions.is_empty() {
         return Ok(Vec::new(alloc));
     }
-    answer(by, alloc, world.network, world.links, questions, ttl)
+    let table = live.tables.diagrams.twin()?;
+    let net = net_of(live, world);
+    let answers = answers_by(by, alloc, table, &net, questions, ttl)?;
+    Ok(answers)
 }
 
 // The questions that are touched.

@@ -1,10 +1,18 @@
-//! The network after a step.
+//! A step of a change window, and the network after it.
 
 ghost use Rattle.std.specs.Prelude.{◌≡◌, IfOk, map};
 ghost use Rattle.rollout.specs.Steps.{device_after, network_after};
 
+use net_forms::Networks;
 use net_types::{Duplicate, List, NetDevice, Network, NoMemory};
 use std::alloc::Global;
+
+/// A step: the networks before and after it, with the same links, and the device that comes in the place of the one of its name.
+#[derive(Clone, Copy)]
+pub struct Step<'a> {
+    pub networks: Networks<'a>,
+    pub change: &'a NetDevice,
+}
 
 /// The network with the device of that name replaced.
 pub(crate) fn network_after(

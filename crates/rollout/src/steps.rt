@@ -1,12 +1,16 @@
 //! The networks of a change window, asked one after the other.
 
 ghost use Rattle.std.specs.Prelude.{◌≡◌, ◌≤◌, ◌<◌, ◌^◌, IfOk, length, map};
+ghost use Rattle.live_network.specs.Live.{IsLive};
+ghost use Rattle.net_view.specs.Borrowed.{world_of};
 ghost use Rattle.rollout.specs.declared.steps.RolloutAnswer.TheVariants as rollout;
-ghost use Rattle.rollout.specs.Steps.{IsRolloutAnswer, networks, world};
+ghost use Rattle.rollout.specs.Steps.{IsRolloutAnswer, IsStep, network_after, networks, world};
 
 use crate::failing::{Failure, failure_after, failure_in};
-use crate::network::network_after;
+use crate::network::{Step, network_after};
 use hdr_bits::Header;
+use list_tables::formed_by_workers;
+use live_network::{LiveWays, ways_of_formed};
 use net_forms::Networks;
 use net_types::{Duplicate, Links, NetDevice, Network, NoMemory, Question};
 use net_view::WorldRef;
@@ -58,29 +62,65 @@ pub fn check_rollout<G: Gate + Sync, R: Threads + Wait + Sync>(
     ensures { IfOk result (IsRolloutAnswer ttl questions.now (map (world rollout.now.links.now) (networks rollout.now.base.now rollout.now.changes.now))) }
 {
     let mut network = rollout.base.copy(alloc)?;
+    let base = WorldRef {
+        network: &network,
+        links: rollout.links,
+    };
+    let mut live = opened(by, alloc, base)?;
     let mut step = 0;
-    if let Some(first) = failure_in(by, alloc, &network, rollout.links, questions, ttl)? {
+    if let Some(first) = failure_in(by, alloc, &live, base, questions, ttl)? {
         return Ok(fails_at(step, first));
     }
     for change in rollout.changes {
         step += 1;
         let next = network_after(alloc, &network, change)?;
-        let networks = Networks {
-            old: WorldRef {
-                network: &network,
-                links: rollout.links,
-            },
-            new: WorldRef {
-                network: &next,
-                links: rollout.links,
-            },
-        };
-        if let Some(failure) = failure_after(by, alloc, networks, questions, ttl)? {
+        let at = step_between(&network, &next, change, rollout.links);
+        if let Some(failure) = failure_after(by, alloc, &mut live, at, questions, ttl)? {
             return Ok(fails_at(step, failure));
         }
         network = next;
     }
     Ok(RolloutAnswer::Holds)
+}
+
+// The first network, whose long lists are made functions by the workers.
+fn opened<R: Threads + Sync, G>(
+    by: &Workers<R, G>,
+    alloc: Global,
+    world: WorldRef,
+) -> Result<LiveWays, NoMemory>
+    ensures { IfOk result (IsLive (world_of world.entry)) }
+{
+    let formed = formed_by_workers(by, alloc, world)?;
+    let live = ways_of_formed(alloc, formed)?;
+    Ok(live)
+}
+
+// The step from one network to the one after the change.
+fn step_between<'a>(
+    old: &'a Network,
+    new: &'a Network,
+    change: &'a NetDevice,
+    links: &'a Links,
+) -> Step<'a>
+    requires { new.now ≡ network_after change.now old.now }
+    ensures step { IsStep result }
+    ensures old { world_of result.networks.old ≡ world links.now old.now }
+    ensures new { world_of result.networks.new ≡ world links.now new.now }
+{
+    Step {
+        networks: Networks {
+            old: WorldRef {
+                network: old,
+                links,
+            },
+            new: WorldRef {
+                network: new,
+                links,
+            },
+        },
+        change,
+    }
 }
 
 // The answer of a step at which a question fails.

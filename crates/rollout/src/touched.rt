@@ -1,108 +1,134 @@
 //! The questions that a step may touch: by the difference of the network before it from the one after it.
 
-ghost use Rattle.std.specs.Prelude.{ℕ, ◌≡◌, ◌<◌, IfOk};
+ghost use Rattle.std.specs.Prelude.{ℕ, ◌≡◌, ◌==◌, IfOk, OnOk, position};
+ghost use Rattle.hdr_bits.specs.declared.header.Header.{Header};
 ghost use Rattle.hdr_bits.specs.HeaderBits.{number};
 ghost use Rattle.hdr_bits.specs.CubeBits.{IsIn};
-ghost use Rattle.cube_diagram.specs.Functions.{Functions, Keeps};
+ghost use Rattle.cube_diagram.specs.Functions.{Keeps};
 ghost use Rattle.indexmap.specs.IndexMap.{get};
-ghost use Rattle.difference_reach.specs.Reaches.{AreNumbers, IsReach};
-ghost use Rattle.net_forms.specs.Pairs.{ArePreparedParts};
+ghost use Rattle.difference_reach.specs.Reaches.{AreNumbers};
+ghost use Rattle.live_network.specs.Live.{IsLive, IsRenewed};
 ghost use Rattle.net_types.specs.World.{World, same_place};
 ghost use Rattle.net_view.specs.Borrowed.{world_of};
 ghost use Rattle.place_ways.specs.Places.{ArePlaceWays};
-ghost use Rattle.set_walk.specs.Scopes.{AreAlikeBeyond};
-ghost use Rattle.set_walk.specs.Sets.{IsSet};
+ghost use Rattle.set_walk.specs.Nets.{IsNet};
+ghost use Rattle.set_walk.specs.Sets.{InSet, IsSet};
+ghost use Rattle.rollout.specs.Steps.{IsStep};
 ghost use Rattle.rollout.specs.Touched.{AreTouched, IsTouchedSo, MayTouch};
 
+use crate::network::Step;
 use cube_diagram::Diagrams;
 use difference_reach::Reach;
 use hdr_bits::Cube;
-use list_tables::prepared_by_workers;
-use net_compare::{ScopedWays, scoped_ways};
-use net_forms::{BothForms, Networks, PreparedParts, Tables};
-use net_types::{NoMemory, Question};
+use indexmap::IndexMap;
+use live_network::{LiveWays, Replacement, replace_device};
+use net_forms::Networks;
+use net_types::{NetDevice, NoMemory, Place, Question};
 use set_walk::Net;
 use set_walk::sets::both;
 use std::alloc::Global;
-use std::thread::Threads;
-use steal_pool::Workers;
 
-/// For each question whether some header of its filter, where it enters, may walk otherwise in the new network than in the old
-/// one. Of a question that isn't touched every header of the filter walks alike in both.
-pub(crate) fn touched<R: Threads + Sync, G>(
-    by: &Workers<R, G>,
+/// For each question whether some header of its filter, where it enters, may walk otherwise after the step than before it. Of a
+/// question that isn't touched every header of the filter walks alike in both networks. What is kept of the first network becomes
+/// what is kept of the second one.
+pub(crate) fn touched(
     alloc: Global,
-    networks: Networks,
+    live: &mut LiveWays,
+    step: Step,
     questions: &[Question],
 ) -> Result<Vec<bool>, NoMemory>
-    ensures { IfOk result (λ r. AreTouched (world_of networks.entry.old) (world_of networks.entry.new) questions.now r.items) }
+    requires live { IsLive (world_of step.networks.old) live.old }
+    requires step { IsStep step }
+    ensures touched { IfOk result (λ r. AreTouched (world_of step.entry.networks.old) (world_of step.entry.networks.new) questions.now r.items) }
+    ensures live { OnOk result (IsLive (world_of step.entry.networks.new) live.new) }
 {
-    let prepared = prepared_by_workers(by, alloc, networks)?;
-    touched_between(alloc, prepared.into_parts(), questions)
+    let before = replaced(alloc, live, step)?;
+    let networks = step.networks;
+    let touched = touched_between(alloc, live, networks, &before, questions)?;
+    Ok(touched)
 }
 
-// The same of two compiled networks.
+// Makes of what is kept of the first network of the step what is kept of the second one, and answers the positions before.
+fn replaced(
+    alloc: Global,
+    live: &mut LiveWays,
+    step: Step,
+) -> Result<IndexMap<Place, usize>, NoMemory>
+    requires live { IsLive (world_of step.networks.old) live.old }
+    requires step { IsStep step }
+    ensures live { OnOk result (IsLive (world_of step.entry.networks.new) live.new) }
+    ensures before { IfOk result (λ r. (p : Place) → get same_place r p ≡ get same_place live.old.ways.positions p) }
+    ensures renewed { IsRenewed live.old live.new }
+{
+    let devices = step.networks.old.network.devices.as_slice();
+    let Some(position) = position_named(devices, step.change.name) else {
+        let same = live.ways.positions.clone()?;
+        return Ok(same);
+    };
+    let before = &devices[position];
+    let at = Replacement {
+        world: step.networks.new,
+        before,
+        after: step.change,
+    };
+    let positions = replace_device(alloc, live, at)?;
+    Ok(positions)
+}
+
+fn position_named(devices: &[NetDevice], name: u32) -> Option<usize>
+    ensures { result ≡ position (λ d. d.name == name) devices.now }
+{
+    devices.iter().position(|d| d.name == name)
+}
+
+// The questions, where this is kept of the second network, and the places of the first one have these positions.
 fn touched_between(
     alloc: Global,
-    parts: PreparedParts,
-    questions: &[Question],
-) -> Result<Vec<bool>, NoMemory>
-    requires { ArePreparedParts (record { old = world_of parts.old.world; new = world_of parts.new.world }) parts }
-    ensures { IfOk result (λ r. AreTouched (world_of parts.entry.old.world) (world_of parts.entry.new.world) questions.now r.items) }
-{
-    let PreparedParts {
-        tables,
-        old,
-        new,
-        like,
-    } = parts;
-    let Tables {
-        mut diagrams,
-        fates,
-    } = tables;
-    let forms = BothForms {
-        fates: &fates,
-        old: &old,
-        new: &new,
-        like: &like,
-    };
-    let scoped = scoped_ways(alloc, forms, &mut diagrams)?;
-    let networks = Networks {
-        old: old.world,
-        new: new.world,
-    };
-    touched_by(alloc, diagrams, networks, &scoped, questions)
-}
-
-// By the ways of both networks for the headers of a scope, outside which they do the same.
-fn touched_by(
-    alloc: Global,
-    mut table: Diagrams,
+    live: &mut LiveWays,
     networks: Networks,
-    scoped: &ScopedWays,
+    before: &IndexMap<Place, usize>,
     questions: &[Question],
 ) -> Result<Vec<bool>, NoMemory>
-    requires old { ArePlaceWays (world_of networks.old) table scoped.now.scope scoped.now.ways.lists.items (get same_place scoped.now.ways.old) }
-    requires new { ArePlaceWays (world_of networks.new) table scoped.now.scope scoped.now.ways.lists.items (get same_place scoped.now.ways.new) }
-    requires beyond { AreAlikeBeyond (world_of networks.old) (world_of networks.new) table scoped.now.scope }
-    ensures { IfOk result (λ r. AreTouched (world_of networks.entry.old) (world_of networks.entry.new) questions.now r.items) }
+    requires live { IsLive (world_of networks.new) live.old }
+    requires before { ArePlaceWays (world_of networks.old) live.old.tables.diagrams live.old.scope live.old.ways.lists.items (get same_place before.now) }
+    ensures touched { IfOk result (λ r. AreTouched (world_of networks.entry.old) (world_of networks.entry.new) questions.now r.items) }
+    ensures live { OnOk result (IsLive (world_of networks.entry.new) live.new) }
 {
-    let scope = scoped.scope;
-    let ways = &scoped.ways;
+    let ways = &live.ways;
     let old = Net {
         world: networks.old,
-        places: &ways.old,
+        places: before,
         lists: &ways.lists,
-        scope,
+        scope: live.scope,
     };
     let new = Net {
         world: networks.new,
-        places: &ways.new,
+        places: &ways.positions,
         lists: &ways.lists,
-        scope,
+        scope: live.scope,
     };
-    let reach = Reach::of(alloc, &mut table, &old, &new)?;
-    let touched = touched_in(alloc, &mut table, &reach, questions)?;
+    let touched = touched_by(alloc, &mut live.tables.diagrams, &old, &new, questions)?;
+    Ok(touched)
+}
+
+// By the ways of both networks for all headers, in one list.
+fn touched_by(
+    alloc: Global,
+    table: &mut Diagrams,
+    old: &Net,
+    new: &Net,
+    questions: &[Question],
+) -> Result<Vec<bool>, NoMemory>
+    requires old { IsNet table.old old.now }
+    requires new { IsNet table.old new.now }
+    requires scope { old.now.scope ≡ new.now.scope }
+    requires lists { old.now.lists.now ≡ new.now.lists.now }
+    requires all { (h : Header) → InSet table.old old.now.scope h }
+    ensures touched { IfOk result (λ r. AreTouched (world_of old.now.world) (world_of new.now.world) questions.now r.items) }
+    ensures kept { Keeps table.old table.new }
+{
+    let reach = Reach::of(alloc, table, old, new)?;
+    let touched = touched_in(alloc, table, &reach, questions)?;
     Ok(touched)
 }
 
@@ -114,7 +140,8 @@ fn touched_in(
     questions: &[Question],
 ) -> Result<Vec<bool>, NoMemory>
     requires { AreNumbers table.old reach.now }
-    ensures { IfOk result (λ r. (old new : World) (scope : ℕ) → MayTouch old new table.old scope reach.now → AreTouched old new questions.now r.items) }
+    ensures touched { IfOk result (λ r. (old new : World) (scope : ℕ) → MayTouch old new table.old scope reach.now → AreTouched old new questions.now r.items) }
+    ensures kept { Keeps table.old table.new }
 {
     let mut touched = Vec::with_capacity(alloc, questions.len())?;
     for question in questions {
