@@ -18,3 +18,4 @@ pub mod ValueSetLemmas
 pub mod ByValueLemmas
 pub mod ValuesTold
 pub mod RowCountLemmas
+pub mod AbsorbedLemmas

@@ -21,6 +21,7 @@ fn show_all(rt: &HostRuntime, d: &mut Diagrams, other: &mut Diagrams) -> Result<
     show_images(rt, d)?;
     show_pairs(rt, d)?;
     show_copies(rt, d, other)?;
+    show_absorbed(rt, d, other)?;
     show_least(rt, d)
 }
 
@@ -119,6 +120,20 @@ fn show_copies(rt: &HostRuntime, d: &mut Diagrams, other: &mut Diagrams) -> Resu
     let copy = other.copy_from(d, list, &mut known)?;
     let made = other.first_match(&pieces())?;
     print_all(rt, &[("copied", other.same(copy, made))])
+}
+
+// All functions of another table, with the values 7 and 9 exchanged.
+fn show_absorbed(rt: &HostRuntime, d: &mut Diagrams, other: &mut Diagrams) -> Result<(), Stop> {
+    let list = d.first_match(&pieces())?;
+    let one = other.add_entry(&[cube("00000001")], 9)?;
+    let four = other.add_entry(&[cube("000000**")], 7)?;
+    let made = other.first_of(&[one, four])?;
+    let numbers = other.absorb(d, &[0, 1, 2, 3, 4, 5, 6, 9, 8, 7])?;
+    let same = match numbers.get(list as usize) {
+        Some(number) => other.same(*number, made),
+        None => false,
+    };
+    print_all(rt, &[("taken over with other values", same)])
 }
 
 // The least header of 0000001* has the flags 2, and no other bit.
