@@ -22,7 +22,10 @@ mod words;
 
 pub use cubes::{cube_bytes, header_bytes};
 pub use field_reader::read_field;
-pub use fields::{address_bytes, append, append_address, append_number, decimal_bytes};
+pub use fields::{
+    address_bytes, append, append_address, append_address_field, append_number,
+    append_number_field, append_ternary, decimal_bytes,
+};
 pub use names::are_names;
 pub use reader::{ReportFail, read_report};
 pub use readings::readings_bytes;

@@ -1,13 +1,11 @@
 //! Protocols, ports and ICMP messages as a person reads them.
-ghost use Rattle.std.specs.Prelude.{◌≡◌, ◌++◌, ◌∷◌, [], ◌/◌, ◌%◌, ◌≤◌, ◌<◌, option_map, OnOk};
-ghost use Rattle.std.specs.Int.{bit_at};
-ghost use Rattle.report_text.specs.FieldText.{digit_text, ternary_text};
+ghost use Rattle.std.specs.Prelude.{◌≡◌, ◌++◌, ◌/◌, ◌%◌, option_map, OnOk};
 ghost use Rattle.view_core.specs.FieldWords.{range_text, name_or, protocol_text, protocol_part, name_behind, ports_text, port_part, one_type, one_message, some_types, some_messages, messages_text, masked_messages, message_part};
 
 use crate::labels::{Service, code_name, port_name, protocol_name, type_name};
 use net_types::NoMemory;
 use report_groups::{Part, Pattern, Span};
-use report_text::{append, append_number};
+use report_text::{append, append_number, append_ternary};
 
 /// A protocol by its name, or numbers.
 pub(crate) fn append_protocol_part(out: &mut Vec<u8>, part: &Part) -> Result<(), NoMemory>
@@ -171,34 +169,4 @@ fn append_types(out: &mut Vec<u8>, span: &Span) -> Result<(), NoMemory>
     append_number(out, span.low / 256)?;
     append(out, b" - ")?;
     append_number(out, span.high / 256)
-}
-
-/// The digits of a pattern of `width` bits, the most significant one first.
-pub(crate) fn append_ternary(
-    out: &mut Vec<u8>,
-    width: u32,
-    fixed: u32,
-    bits: u32,
-) -> Result<(), NoMemory>
-    requires { width ≤ 32 }
-    ensures { OnOk result (out.new.items ≡ out.old.items ++ ternary_text width fixed bits) }
-{
-    for k in (0..width).rev() {
-        out.push(ternary_digit(fixed, bits, k))?;
-    }
-    Ok(())
-}
-
-// Place `k` from the least significant one, as a ternary digit.
-fn ternary_digit(fixed: u32, bits: u32, k: u32) -> u8
-    requires { k < 32 }
-    ensures { digit_text (bit_at fixed k) (bit_at bits k) ≡ result ∷ [] }
-{
-    if fixed >> k & 1 == 0 {
-        b'*'
-    } else if bits >> k & 1 == 0 {
-        b'0'
-    } else {
-        b'1'
-    }
 }
