@@ -67,6 +67,34 @@ pub(crate) fn print_destinations(rt: &HostRuntime) -> io::Result<()> {
     Ok(())
 }
 
+/// Prints whether a device of forty interfaces has the same function when it is added again: each of its fates is found by its
+/// hash.
+pub(crate) fn print_again(rt: &HostRuntime) -> io::Result<()> {
+    let same = is_same_again(rt.alloc()).unwrap_or(false);
+    println!(rt; "a device of forty interfaces again: {same}")
+}
+
+fn is_same_again(alloc: Global) -> Result<bool, NoMemory> {
+    let Some(config) = forty_interfaces(alloc) else {
+        return Ok(false);
+    };
+    let mut diagrams = Diagrams::new(alloc)?;
+    let mut fates = Fates::new(alloc);
+    let first = add_device(alloc, &mut diagrams, &mut fates, &config)?;
+    let again = add_device(alloc, &mut diagrams, &mut fates, &config)?;
+    Ok(diagrams.same(first, again))
+}
+
+fn forty_interfaces(alloc: Global) -> Option<Config> {
+    let mut text = format!(in alloc; "").ok()?;
+    for i in 0..40u32 {
+        text = format!(in alloc;
+            "{text}interface E{i}\n ip address 10.1.{i}.1 255.255.255.0\n"
+        ).ok()?;
+    }
+    read_lines(alloc, &text, "")
+}
+
 fn print_destination(rt: &HostRuntime, config: &Config, address: u32) -> io::Result<()> {
     let mut fates = Fates::new(rt.alloc());
     let number = number_of(rt.alloc(), &mut fates, config, address);

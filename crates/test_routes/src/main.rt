@@ -17,5 +17,6 @@ fn main(rt: HostRuntime) -> io::Result<()> {
     translation::print_translation(&rt)?;
     routes::print_routes(&rt)?;
     destinations::print_destinations(&rt)?;
+    destinations::print_again(&rt)?;
     devices::print_devices(&rt)
 }
