@@ -6,10 +6,9 @@ ghost use Rattle.hdr_bits.specs.declared.header.Header.{Header};
 ghost use Rattle.hdr_bits.specs.HeaderBits.{number, IsHeader};
 ghost use Rattle.cube_diagram.specs.Functions.{Keeps, count_of, value_at};
 ghost use Rattle.hdr_bits.specs.Lists.{Extends};
-ghost use Rattle.device_fates.specs.Fates.{ArePiecesOf, HasFate};
+ghost use Rattle.device_fates.specs.Fates.{HasFate};
 
 use crate::fates::Fates;
-use crate::made::{MadePieces, renumbered};
 use crate::pieces::pieces_of;
 use cube_diagram::Diagrams;
 use net_types::{Config, NoMemory};
@@ -34,28 +33,6 @@ pub fn add_device(
     ensures exact { IfOk result (λ r. (h : Header) → IsHeader h → HasFate config.now fates.new (value_at diagrams.new r (number h)) h.dst) }
 {
     let pieces = pieces_of(alloc, fates, config)?;
-    let function = diagrams.prefix_match(&pieces)?;
-    Ok(function)
-}
-
-/// The same for a device whose pieces were made beforehand.
-///
-/// # Errors
-///
-/// There was no memory, or there are 2 to the 32 fates or more.
-pub fn add_made(
-    alloc: Global,
-    diagrams: &mut Diagrams,
-    fates: &mut Fates,
-    made: &MadePieces,
-) -> Result<u32, NoMemory>
-    ensures below { IfOk result (λ r. r < count_of diagrams.new) }
-    ensures kept { Keeps diagrams.old diagrams.new }
-    ensures grows { Extends fates.old fates.new }
-    ensures exact { IfOk result (λ r. (c : Config) → ArePiecesOf c made.now → (h : Header) → IsHeader h → HasFate c fates.new (value_at diagrams.new r (number h)) h.dst) }
-{
-    let numbers = fates.numbers_of(alloc, &made.fates)?;
-    let pieces = renumbered(alloc, &made.pieces, &numbers)?;
     let function = diagrams.prefix_match(&pieces)?;
     Ok(function)
 }

@@ -72,8 +72,9 @@ impl Fates {
         Ok(number)
     }
 
-    /// The numbers of others' fates, one by one, each of which is added where it isn't there.
-    pub(crate) fn numbers_of(&mut self, alloc: Global, others: &Fates) -> Result<Vec<u32>, NoMemory>
+    /// The numbers of the fates of another table, one by one, each of which is added where it isn't there. Without memory fates
+    /// may have been added, but none that was there is changed.
+    pub fn numbers_of(&mut self, alloc: Global, others: &Fates) -> Result<Vec<u32>, NoMemory>
         ensures numbers { IfOk result (λ numbers. AreNumbers self.new numbers.items others.now) }
         ensures grows { Extends self.old self.new }
     {

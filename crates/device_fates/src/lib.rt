@@ -11,11 +11,9 @@ mod cubes;
 mod fate;
 mod fates;
 mod hash;
-mod made;
 mod pieces;
 mod same;
 
-pub use add::{add_device, add_made};
+pub use add::add_device;
 pub use fate::Fate;
 pub use fates::Fates;
-pub use made::{MadePieces, made_pieces};

@@ -1,23 +1,30 @@
 -- Lists that are made, and what is known of the devices' lists, as tables grow.
-use Rattle.std.proofs.Common.{ℕ, zero, suc, ◌≡◌, ◌≢◌, ◌<◌, ◌++◌, inl, inr, All, List, [], ◌∷◌, length, get_or, slice_get, slice_set, Option, Some, None, option_and_then, refl, ap, sym, ◌∙◌, subst, arith}
-use Rattle.std.specs.Prelude.{Result, Ok, Err, OnOk}
+use Rattle.std.proofs.Common.{ℕ, zero, suc, ◌≡◌, ◌≢◌, ◌<◌, ◌≤◌, ◌++◌, ◌⊎◌, inl, inr, All, List, [], ◌∷◌, length, get_or, slice_get, slice_set, Option, Some, None, option_and_then, refl, ap, sym, ◌∙◌, subst, arith}
+use Rattle.std.specs.Prelude.{Result, Ok, Err, IfSome, OnOk}
 use Rattle.std.proofs.lemmas.Bool.Decides.{eqb_tells}
 use Rattle.std.proofs.lemmas.List.Elements.{All-append, All-nil, All-weaker}
 use Rattle.std.proofs.lemmas.Option.{slice_get_read}
+use Rattle.cube_diagram.specs.Absorbed.{TellsOthers}
 use Rattle.cube_diagram.specs.Functions.{Functions, Keeps, count_of, value_at}
+use Rattle.device_fates.specs.declared.fate.Fate.{Fate}
+use Rattle.device_fates.specs.Fates.{IsFateFunction}
+use Rattle.device_fates.specs.Pieces.{AreNumbers}
+use Rattle.device_fates.proofs.FateLemmas.{told_function}
 use Rattle.hdr_bits.specs.HeaderBits.{number}
 use Rattle.net_types.specs.declared.config.AccessList.{AccessList}
 use Rattle.net_types.specs.declared.network.NetDevice.{NetDevice}
 use Rattle.net_forms.specs.declared.forms.DeviceLists.{DeviceLists}
 use Rattle.net_forms.specs.declared.forms.KnownList.{KnownList}
-use Rattle.net_forms.specs.Forms.{IsKnown, IsList}
-use Rattle.net_forms.specs.Known.{AreKnownLists, AreKnownPieces, known_at, lists_of}
-use Rattle.net_forms.proofs.FormLemmas.{list_kept}
+use Rattle.net_forms.specs.Forms.{IsKnown, IsList, TablesGrow}
+use Rattle.net_forms.specs.declared.forms.Tables.{Tables}
+use Rattle.net_forms.specs.Known.{AreKnownFates, AreKnownLists, known_at, lists_of}
+use Rattle.net_forms.proofs.FormLemmas.{fates_kept, list_kept}
 use Rattle.list_tables.specs.declared.lists.BothDevices.{BothDevices}
 use Rattle.list_tables.specs.declared.lists.ListPosition.{ListPosition}
 use Rattle.list_tables.specs.declared.shares.MadeList.{MadeList}
 use Rattle.list_tables.specs.declared.shares.MadeShare.{MadeShare}
-use Rattle.list_tables.specs.Made.{IsMadeList, IsMadeShare, devices_of, list_at}
+use Rattle.list_tables.specs.declared.fates.MadeFates.{MadeFates}
+use Rattle.list_tables.specs.Made.{IsMadeFates, IsMadeList, IsMadeShare, devices_of, list_at}
 
 get_set_same : {A : Type 0} (xs : List A) (i : ℕ) (v : A) → i < length xs → slice_get (slice_set xs i v) i ≡ Some v
 get_set_same [] i v l = absurd (omega arith)
@@ -80,9 +87,46 @@ module _ (fs : Functions) (ds : List NetDevice) where
         | inr q ↦ subst (λ (o : Option DeviceLists). All (IsKnown fs d.config.lists) (lists_of o)) (sym (get_set_other known at.device n v q.1)) (a n d e)
       ]
 
--- ---- what is known of pieces
-pub no_pieces : (ds : List NetDevice) → AreKnownPieces ds []
-no_pieces ds n d made e a = absurd cc
+-- ---- what is known of destinations
+pub nothing_of_fates : (fs : Functions) (fates : List Fate) (ds : List NetDevice) (known : List (Option ℕ)) → ((n : ℕ) (o : Option ℕ) → slice_get known n ≡ Some o → o ≡ None) → AreKnownFates fs fates ds known
+nothing_of_fates fs fates ds known none n d f e k = (let q : Some f ≡ None = none n (Some f) k in absurd cc)
+
+set_cases : {A : Type 0} (xs : List A) (i n : ℕ) (v y : A) → slice_get (slice_set xs i v) n ≡ Some y → ((i ≡ n) × (v ≡ y)) ⊎ (slice_get xs n ≡ Some y)
+set_cases [] i n v y e = inr e
+set_cases (x ∷ xs) zero zero v y e = let s : v ≡ y = cc in inl (refl, s)
+set_cases (x ∷ xs) zero (suc n) v y e = inr e
+set_cases (x ∷ xs) (suc i) zero v y e = inr e
+set_cases (x ∷ xs) (suc i) (suc n) v y e =
+    elim (set_cases xs i n v y e) [
+      | inl p ↦ inl (ap suc p.0, p.1)
+      | inr q ↦ inr q
+    ]
+
+pub set_beyond : {A : Type 0} (xs : List A) (i : ℕ) (v : A) → length xs ≤ i → slice_set xs i v ≡ xs
+set_beyond [] i v l = refl
+set_beyond (x ∷ xs) zero v l = absurd (omega arith)
+set_beyond (x ∷ xs) (suc i) v l = ap (λ ys. x ∷ ys) (set_beyond xs i v (omega arith))
+
+-- the function of one device more
+pub fates_more : (fs : Functions) (fates : List Fate) (ds : List NetDevice) (known : List (Option ℕ)) (i : ℕ) (o : Option ℕ) → ((d : NetDevice) → slice_get ds i ≡ Some d → IfSome o (IsFateFunction fs fates d.config)) → AreKnownFates fs fates ds known → AreKnownFates fs fates ds (slice_set known i o)
+fates_more fs fates ds known i o right a n d f e k =
+    elim (set_cases known i n o (Some f) k) [
+      | inl p ↦
+          let here : slice_get ds i ≡ Some d = ap (slice_get ds) p.0 ∙ e in
+          subst (λ (q : Option ℕ). IfSome q (IsFateFunction fs fates d.config)) p.1 (right d here)
+      | inr q ↦ a n d f e q
+    ]
+
+-- a device more that a worker made
+pub made_fates_more : (old new : Tables) (ds : List NetDevice) (made : List MadeFates) (m : MadeFates) → TablesGrow old new → All (IsMadeFates old ds) made → IsMadeFates new ds m → All (IsMadeFates new ds) (made ++ m ∷ [])
+made_fates_more old new ds made m g a r =
+    All-append (IsMadeFates new ds) made (m ∷ []) (All-weaker (IsMadeFates old ds) (IsMadeFates new ds) (λ x p d e. fates_kept old new d.config x.function g (p d e)) made a) (All-one (IsMadeFates new ds) m r)
+
+-- what a worker made of a device, with the numbers that its fates have here
+pub fates_told : (new others : Tables) (numbers absorbed : List ℕ) (ds : List NetDevice) (m : MadeFates) (o : Option ℕ) → o ≡ slice_get absorbed m.function → AreNumbers new.fates numbers others.fates → ((a n : ℕ) → slice_get absorbed a ≡ Some n → TellsOthers others.diagrams numbers new.diagrams a n) → IsMadeFates others ds m → (d : NetDevice) → slice_get ds m.device ≡ Some d → IfSome o (IsFateFunction new.diagrams new.fates d.config)
+fates_told new others numbers absorbed ds m None e are tells made d there = tt
+fates_told new others numbers absorbed ds m (Some n) e are tells made d there =
+    told_function d.config others.diagrams new.diagrams others.fates new.fates numbers m.function n are (tells m.function n (sym e)) (made d there)
 
 pub same_item : {A : Type 0} (x y : A) → Some x ≡ Some y → x ≡ y
 same_item x y e = cc

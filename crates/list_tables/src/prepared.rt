@@ -1,19 +1,18 @@
-//! Networks that are compiled once the workers have made the functions of their long lists, and the pieces of their routes.
+//! Networks that are compiled once the workers have made the functions of their long lists and of their routes.
 
 ghost use Rattle.std.specs.Prelude.{◌≡◌, IfOk};
 ghost use Rattle.net_view.specs.Borrowed.{world_of};
-ghost use Rattle.net_forms.specs.Known.{AreKnownLists, AreKnownPieces};
+ghost use Rattle.net_forms.specs.Known.{AreKnownFates, AreKnownLists};
 ghost use Rattle.net_forms.specs.Networks.{IsFormedNetwork};
 ghost use Rattle.net_forms.specs.Pairs.{worlds_of};
 ghost use Rattle.list_tables.specs.declared.lists.BothDevices.{BothDevices};
 ghost use Rattle.list_tables.specs.Made.{AreKnown, AreKnownBoth};
 
+use crate::fates::fates_by_workers;
 use crate::known::{KnownLists, known_of, none_known};
 use crate::lists::BothDevices;
-use crate::pieces::pieces_by_workers;
 use crate::shares::made_by_workers;
 use crate::wanted::{have_one_worker, known_devices, wanted_lists};
-use device_fates::MadePieces;
 use net_forms::{Beforehand, FormedNetwork, Networks, Prepared};
 use net_types::NoMemory;
 use net_view::WorldRef;
@@ -25,9 +24,9 @@ use steal_pool::Workers;
 #[derive(Drop)]
 pub(crate) struct KnownBoth {
     pub(crate) lists: KnownLists,
-    /// By the positions of the devices, as are those of the new network.
-    pub(crate) old_pieces: Vec<Option<MadePieces>>,
-    pub(crate) new_pieces: Vec<Option<MadePieces>>,
+    /// The functions of what the devices do with destinations, by their positions, as are those of the new network.
+    pub(crate) old_fates: Vec<Option<u32>>,
+    pub(crate) new_fates: Vec<Option<u32>>,
 }
 
 /// Compiles two networks, as `Prepared::of` does, whose long access lists and routes are prepared by the workers.
@@ -78,14 +77,15 @@ fn known_by_workers<R: Threads + Sync, G>(
         let nothing = nothing_made(alloc)?;
         return Ok(nothing);
     }
-    let known = known_devices(alloc, both)?;
-    let lists = lists_by_workers(by, alloc, both, &known)?;
-    let old_pieces = pieces_by_workers(by, alloc, both.old, &[])?;
-    let new_pieces = pieces_by_workers(by, alloc, both.new, &known)?;
+    let known = known_devices(by, alloc, both)?;
+    let mut lists = lists_by_workers(by, alloc, both, &known)?;
+    let tables = &mut lists.tables;
+    let old_fates = fates_by_workers(by, alloc, both.old, &[], tables)?;
+    let new_fates = fates_by_workers(by, alloc, both.new, &known, tables)?;
     Ok(KnownBoth {
         lists,
-        old_pieces,
-        new_pieces,
+        old_fates,
+        new_fates,
     })
 }
 
@@ -93,12 +93,12 @@ fn nothing_made(alloc: Global) -> Result<KnownBoth, NoMemory>
     ensures { IfOk result (λ known. (both : BothDevices) → AreKnownBoth both known) }
 {
     let lists = none_known(alloc)?;
-    let old_pieces = Vec::new(alloc);
-    let new_pieces = Vec::new(alloc);
+    let old_fates = Vec::new(alloc);
+    let new_fates = Vec::new(alloc);
     Ok(KnownBoth {
         lists,
-        old_pieces,
-        new_pieces,
+        old_fates,
+        new_fates,
     })
 }
 
@@ -128,14 +128,14 @@ fn prepared_with<'a>(
 ) -> Result<Prepared<'a>, NoMemory>
     requires old { AreKnownLists known.lists.tables.diagrams networks.old.network.now.devices known.lists.old_lists.items }
     requires new { AreKnownLists known.lists.tables.diagrams networks.new.network.now.devices known.lists.new_lists.items }
-    requires old_pieces { AreKnownPieces networks.old.network.now.devices known.old_pieces.items }
-    requires new_pieces { AreKnownPieces networks.new.network.now.devices known.new_pieces.items }
+    requires old_fates { AreKnownFates known.lists.tables.diagrams known.lists.tables.fates networks.old.network.now.devices known.old_fates.items }
+    requires new_fates { AreKnownFates known.lists.tables.diagrams known.lists.tables.fates networks.new.network.now.devices known.new_fates.items }
     ensures { IfOk result (λ p. p ≡ worlds_of networks.entry) }
 {
     let KnownBoth {
         lists,
-        old_pieces,
-        new_pieces,
+        old_fates,
+        new_fates,
     } = known;
     let KnownLists {
         tables,
@@ -144,11 +144,11 @@ fn prepared_with<'a>(
     } = lists;
     let of_old = Beforehand {
         lists: &old_lists,
-        pieces: &old_pieces,
+        fates: &old_fates,
     };
     let of_new = Beforehand {
         lists: &new_lists,
-        pieces: &new_pieces,
+        fates: &new_fates,
     };
     Prepared::with_known(alloc, tables, networks, of_old, of_new)
 }
@@ -159,12 +159,12 @@ fn formed_with<'a>(
     known: KnownBoth,
 ) -> Result<FormedNetwork<'a>, NoMemory>
     requires lists { AreKnownLists known.lists.tables.diagrams world.network.now.devices known.lists.old_lists.items }
-    requires pieces { AreKnownPieces world.network.now.devices known.old_pieces.items }
+    requires fates { AreKnownFates known.lists.tables.diagrams known.lists.tables.fates world.network.now.devices known.old_fates.items }
     ensures { IfOk result (IsFormedNetwork (world_of world.entry)) }
 {
     let KnownBoth {
         lists,
-        old_pieces,
+        old_fates,
         ..
     } = known;
     let KnownLists {
@@ -174,7 +174,7 @@ fn formed_with<'a>(
     } = lists;
     let before = Beforehand {
         lists: &old_lists,
-        pieces: &old_pieces,
+        fates: &old_fates,
     };
     FormedNetwork::with_known(alloc, tables, world, before)
 }

@@ -1,4 +1,6 @@
-//! Which lists are made beforehand, and by whom. The choice changes no answer, so no clause speaks of it.
+//! Which functions of lists and of routes are made beforehand, and by whom. The choice changes no answer, so no clause speaks of it.
+
+ghost use Rattle.std.specs.Prelude.{◌≤◌};
 
 use crate::lists::{BothDevices, ListPosition};
 use device_equality::same_device;
@@ -7,9 +9,14 @@ use net_forms::Version;
 use net_types::{Config, Interface, NetDevice, NoMemory, Text};
 use net_view::same_text;
 use std::alloc::Global;
+use std::thread::{Threads, for_each_mut};
+use steal_pool::Workers;
 
 /// A list of fewer entries is made about as soon as it is copied from one table to another.
 const MANY_ENTRIES: usize = 64;
+
+/// Fewer pieces of all devices together are made functions about as soon as threads are started for them.
+const MANY_PIECES: usize = 4096;
 
 /// A list that is to be made beforehand.
 #[derive(Clone, Copy)]
@@ -22,16 +29,33 @@ pub(crate) struct WantedList {
     pub(crate) worker: usize,
 }
 
-/// Which devices of the new network the old one has alike, by their positions: such a device is compiled once.
-pub(crate) fn known_devices(alloc: Global, both: BothDevices) -> Result<Vec<bool>, NoMemory> {
+/// A device whose routes and interfaces are to be made a function beforehand.
+#[derive(Clone, Copy)]
+pub(crate) struct WantedFates {
+    /// The position of the device.
+    pub(crate) device: usize,
+    /// The worker who makes it, from 0.
+    pub(crate) worker: usize,
+}
+
+/// Which devices of the new network the old one has alike, by their positions: such a device is compiled once. Workers compare
+/// them.
+pub(crate) fn known_devices<R: Threads + Sync, G>(
+    by: &Workers<R, G>,
+    alloc: Global,
+    both: BothDevices,
+) -> Result<Vec<bool>, NoMemory> {
     let mut positions = IndexMap::new(alloc);
     for i in 0..both.old.len() {
         positions.insert(both.old[i].name, i)?;
     }
     let mut known = Vec::with_capacity(alloc, both.new.len())?;
-    for i in 0..both.new.len() {
-        known.push(is_known(both.old, &positions, &both.new[i]))?;
+    for _ in 0..both.new.len() {
+        known.push(false)?;
     }
+    let positions = &positions;
+    let compare = move |i: usize, known: &mut bool| { *known = is_known(both, positions, i) };
+    for_each_mut(by.rt, &mut known, comparers(by, both.new), &compare);
     Ok(known)
 }
 
@@ -66,12 +90,72 @@ pub(crate) fn wanted_lists(
     Ok(wanted)
 }
 
-// Whether the old network has an equal device.
-fn is_known(old: &[NetDevice], positions: &IndexMap<u32, usize>, device: &NetDevice) -> bool {
+/// The devices that `known` doesn't mark, each with its worker, if there are several with many routes together. Workers have
+/// about as many pieces each: one of a route, and of an interface up to three, for its broadcast address, its own address and
+/// its subnet.
+pub(crate) fn wanted_fates(
+    alloc: Global,
+    devices: &[NetDevice],
+    known: &[bool],
+    workers: u32,
+) -> Result<Vec<WantedFates>, NoMemory> {
+    let mut wanted = Vec::new(alloc);
+    let all = unknown_pieces(devices, known);
+    if all < MANY_PIECES {
+        return Ok(wanted);
+    }
+    let mut before: usize = 0;
+    for device in 0..devices.len() {
+        if is_known_at(known, device) {
+            continue;
+        }
+        let worker = before.saturating_mul(workers as usize) / all;
+        wanted.push(WantedFates { device, worker })?;
+        before = before.saturating_add(piece_count(&devices[device].config));
+    }
+    // A device alone would only be made in one table and then taken over to another.
+    if wanted.len() < 2 {
+        wanted.clear();
+    }
+    Ok(wanted)
+}
+
+// How many pieces the devices have that aren't known.
+fn unknown_pieces(devices: &[NetDevice], known: &[bool]) -> usize {
+    let mut pieces: usize = 0;
+    for i in 0..devices.len() {
+        if !is_known_at(known, i) {
+            pieces = pieces.saturating_add(piece_count(&devices[i].config));
+        }
+    }
+    pieces
+}
+
+fn piece_count(config: &Config) -> usize {
+    let interfaces = config.interfaces.as_slice().len();
+    let routes = config.routes.as_slice().len();
+    routes.saturating_add(interfaces.saturating_mul(3))
+}
+
+// How many workers compare devices.
+fn comparers<R, G>(by: &Workers<R, G>, devices: &[NetDevice]) -> usize
+    ensures { 1 ≤ result }
+{
+    if unknown_pieces(devices, &[]) < MANY_PIECES {
+        return 1;
+    }
+    by.count as usize
+}
+
+// Whether the old network has a device equal to the one at this position of the new one.
+fn is_known(both: BothDevices, positions: &IndexMap<u32, usize>, i: usize) -> bool {
+    let Some(device) = both.new.get(i) else {
+        return false;
+    };
     let Some(position) = positions.get(&device.name) else {
         return false;
     };
-    let Some(known) = old.get(*position) else {
+    let Some(known) = both.old.get(*position) else {
         return false;
     };
     same_device(known, device)

@@ -48,7 +48,7 @@ pub fn open_ways(alloc: Global, world: WorldRef) -> Result<LiveWays, NoMemory>
     let tables = Tables::new(alloc)?;
     let nothing = Beforehand {
         lists: &[],
-        pieces: &[],
+        fates: &[],
     };
     let formed = FormedNetwork::with_known(alloc, tables, world, nothing)?;
     let live = ways_of_formed(alloc, formed)?;
@@ -112,7 +112,7 @@ pub(crate) fn put_compiled(
 {
     let nothing = KnownParts {
         lists: &[],
-        pieces: None,
+        fates: None,
     };
     let form = compile_device(alloc, &mut live.tables, device, nothing)?;
     let at = WiredDevice {

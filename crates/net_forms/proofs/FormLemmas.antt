@@ -20,8 +20,7 @@ use Rattle.net_types.specs.World.{Seat}
 use Rattle.device_fates.specs.declared.fate.Fate.{Fate}
 use Rattle.hdr_bits.specs.Lists.{Extends}
 use Rattle.hdr_bits.proofs.ListLemmas.{extends_get, extends_none, extends_then}
-use Rattle.device_fates.specs.declared.made.MadePieces.{MadePieces}
-use Rattle.device_fates.specs.Fates.{ArePiecesOf, HasFate}
+use Rattle.device_fates.specs.Fates.{HasFate, IsFateFunction}
 use Rattle.net_forms.specs.declared.forms.Beforehand.{Beforehand}
 use Rattle.net_forms.specs.declared.forms.DeviceForm.{DeviceForm}
 use Rattle.net_forms.specs.declared.forms.DeviceLists.{DeviceLists}
@@ -30,7 +29,7 @@ use Rattle.net_forms.specs.declared.forms.SeatForm.{SeatForm}
 use Rattle.net_forms.specs.declared.forms.Tables.{Tables}
 use Rattle.net_forms.specs.Along.{AreAlong}
 use Rattle.net_forms.specs.Forms.{IsList, IsKnown, IsSeatForm, AreSeatForms, IsDeviceForm, IsFormOfSeat, TablesGrow, list_in}
-use Rattle.net_forms.specs.Known.{AreKnownBefore, AreKnownLists, AreKnownPieces, known_at}
+use Rattle.net_forms.specs.Known.{AreKnownBefore, AreKnownFates, AreKnownLists, known_at}
 use Rattle.net_forms.specs.declared.forms.NetworkForm.{NetworkForm}
 use Rattle.net_forms.specs.Networks.{AreDevices, IsCopy, IsFormIn, IsNetworkForm}
 use Rattle.net_forms.proofs.FindLemmas.{at_position, found, not_found, there}
@@ -92,20 +91,6 @@ known_kept f g lists known k a = All-weaker (IsKnown f lists) (IsKnown g lists) 
 pub lists_kept : (f g : Functions) (ds : List NetDevice) (known : List DeviceLists) → Keeps f g → AreKnownLists f ds known → AreKnownLists g ds known
 lists_kept f g ds known k a n d e = known_kept f g d.config.lists (known_at known n) k (a n d e)
 
-pub before_kept : (f g : Functions) (ds : List NetDevice) (before : Beforehand) → Keeps f g → AreKnownBefore f ds before → AreKnownBefore g ds before
-before_kept f g ds before k a = record { lists = lists_kept f g ds before.lists.now k a.lists; pieces = a.pieces }
-
--- the pieces that stand at a device's position are the device's
-pub pieces_here : (ds : List NetDevice) (known : List (Option MadePieces)) (n : ℕ) (d : NetDevice) (o : Option (Bor MadePieces)) → slice_get ds n ≡ Some d → AreKnownPieces ds known → IfSome o (λ made. slice_get known n ≡ Some (Some made.now)) → IfSome o (λ made. ArePiecesOf d.config made.now)
-pieces_here ds known n d None e a i = i
-pieces_here ds known n d (Some made) e a i = a n d made.now e i
-
-pub seat_kept : (f g : Functions) (c : Config) (i : Interface) (x : SeatForm) → Keeps f g → IsSeatForm f c i x → IsSeatForm g c i x
-seat_kept f g c i x k a = record { input = list_kept f g _ x.input k a.input; output = list_kept f g _ x.output k a.output }
-
-pub seats_kept : (f g : Functions) (c : Config) (is : List Interface) (xs : List SeatForm) → Keeps f g → AreSeatForms f c is xs → AreSeatForms g c is xs
-seats_kept f g c is xs k a = along_weaker (IsSeatForm f c) (IsSeatForm g c) is xs (λ i x r. seat_kept f g c i x k r) a
-
 fate_kept : (c : Config) (old new : List Fate) (value : Option ℕ) (a : ℕ) → Extends old new → HasFate c old value a → HasFate c new value a
 fate_kept c old new value a g h =
     record {
@@ -115,6 +100,42 @@ fate_kept c old new value a g h =
       there = extends_get old new h.number h.fate g h.there;
       holds = h.holds;
     }
+
+-- what is known of destinations, as functions and fates are added
+pub fates_kept : (old new : Tables) (c : Config) (f : ℕ) → TablesGrow old new → IsFateFunction old.diagrams old.fates c f → IsFateFunction new.diagrams new.fates c f
+fates_kept old new c f g a =
+    let k = g.diagrams in
+    let b = a.below in
+    let m = k.count in
+    record {
+      below = omega (arith, b, m);
+      exact = λ h v. subst (λ o. HasFate c new.fates o h.dst) (sym (k.value f a.below (number h))) (fate_kept c old.fates new.fates (value_at old.diagrams f (number h)) h.dst g.fates (a.exact h v));
+    }
+
+pub fates_kept_if_any : (old new : Tables) (c : Config) (o : Option ℕ) → TablesGrow old new → IfSome o (IsFateFunction old.diagrams old.fates c) → IfSome o (IsFateFunction new.diagrams new.fates c)
+fates_kept_if_any old new c None g a = a
+fates_kept_if_any old new c (Some f) g a = fates_kept old new c f g a
+
+pub all_fates_kept : (old new : Tables) (ds : List NetDevice) (known : List (Option ℕ)) → TablesGrow old new → AreKnownFates old.diagrams old.fates ds known → AreKnownFates new.diagrams new.fates ds known
+all_fates_kept old new ds known g a n d f e k = fates_kept old new d.config f g (a n d f e k)
+
+pub before_kept : (old new : Tables) (ds : List NetDevice) (before : Beforehand) → TablesGrow old new → AreKnownBefore old.diagrams old.fates ds before → AreKnownBefore new.diagrams new.fates ds before
+before_kept old new ds before g a =
+    record {
+      lists = lists_kept old.diagrams new.diagrams ds before.lists.now g.diagrams a.lists;
+      fates = all_fates_kept old new ds before.fates.now g a.fates;
+    }
+
+-- the function that stands at a device's position is the device's
+pub fates_here : (fs : Functions) (fates : List Fate) (ds : List NetDevice) (known : List (Option ℕ)) (n : ℕ) (d : NetDevice) (o : Option ℕ) → slice_get ds n ≡ Some d → AreKnownFates fs fates ds known → IfSome o (λ f. slice_get known n ≡ Some (Some f)) → IfSome o (IsFateFunction fs fates d.config)
+fates_here fs fates ds known n d None e a i = i
+fates_here fs fates ds known n d (Some f) e a i = a n d f e i
+
+pub seat_kept : (f g : Functions) (c : Config) (i : Interface) (x : SeatForm) → Keeps f g → IsSeatForm f c i x → IsSeatForm g c i x
+seat_kept f g c i x k a = record { input = list_kept f g _ x.input k a.input; output = list_kept f g _ x.output k a.output }
+
+pub seats_kept : (f g : Functions) (c : Config) (is : List Interface) (xs : List SeatForm) → Keeps f g → AreSeatForms f c is xs → AreSeatForms g c is xs
+seats_kept f g c is xs k a = along_weaker (IsSeatForm f c) (IsSeatForm g c) is xs (λ i x r. seat_kept f g c i x k r) a
 
 pub device_kept : (old new : Tables) (d : NetDevice) (f : DeviceForm) → TablesGrow old new → IsDeviceForm old.diagrams old.fates d f → IsDeviceForm new.diagrams new.fates d f
 device_kept old new d f g a =

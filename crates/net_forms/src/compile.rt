@@ -6,7 +6,7 @@ ghost use Rattle.std.specs.Option.{option_copied};
 ghost use Rattle.hdr_bits.specs.declared.header.Header.{Header};
 ghost use Rattle.hdr_bits.specs.HeaderBits.{number, IsHeader};
 ghost use Rattle.cube_diagram.specs.Functions.{Keeps, count_of, value_at};
-ghost use Rattle.device_fates.specs.Fates.{ArePiecesOf, HasFate};
+ghost use Rattle.device_fates.specs.Fates.{HasFate, IsFateFunction};
 ghost use Rattle.net_types.specs.Moves.{list_named};
 ghost use Rattle.net_view.specs.Borrowed.{world_of};
 ghost use Rattle.net_types.specs.Routes.{same_text};
@@ -21,7 +21,7 @@ use crate::seat::device_named;
 use acl_match::add_list;
 use cube_diagram::Diagrams;
 use device_equality::same_device;
-use device_fates::{MadePieces, add_device, add_made};
+use device_fates::add_device;
 use link_sends::Wiring;
 use nat_static::{inside_pieces, outer_inside_pieces, outer_outside_pieces, outside_pieces};
 use net_types::{AccessList, Config, NetDevice, NoMemory, Text};
@@ -29,8 +29,8 @@ use net_view::{WorldRef, same_text};
 use std::alloc::Global;
 
 /// The form of the network, in these tables. `known` is a network that was compiled before in the same tables, if one was:
-/// an equal device has the same form in both. `before` tells which functions of lists the tables have already, and which
-/// pieces of devices were made: neither is made again.
+/// an equal device has the same form in both. `before` tells which functions of devices the tables have already: those aren't
+/// made again.
 ///
 /// # Errors
 ///
@@ -43,7 +43,7 @@ pub fn compile_network<'a>(
     before: Beforehand,
 ) -> Result<NetworkForm<'a>, NoMemory>
     requires known { IfSome known (λ n. IsNetworkForm tables.old.diagrams tables.old.fates n.now) }
-    requires before { AreKnownBefore tables.old.diagrams world.network.now.devices before }
+    requires before { AreKnownBefore tables.old.diagrams tables.old.fates world.network.now.devices before }
     ensures form { IfOk result (λ n. IsNetworkForm tables.new.diagrams tables.new.fates n) }
     ensures world { IfOk result (λ n. n.world ≡ world.entry) }
     ensures kept { OnOk result (TablesGrow tables.old tables.new) }
@@ -71,7 +71,7 @@ fn compile_devices(
     before: Beforehand,
 ) -> Result<Vec<DeviceForm>, NoMemory>
     requires known { IfSome known (λ n. IsNetworkForm tables.old.diagrams tables.old.fates n.now) }
-    requires before { AreKnownBefore tables.old.diagrams devices.now before }
+    requires before { AreKnownBefore tables.old.diagrams tables.old.fates devices.now before }
     ensures forms { IfOk result (λ r. AreDevices tables.new.diagrams tables.new.fates devices.now r.items) }
     ensures kept { OnOk result (TablesGrow tables.old tables.new) }
 {
@@ -86,20 +86,21 @@ fn compile_devices(
 // What is known of the device at this position.
 fn known_parts<'a>(before: Beforehand<'a>, i: usize) -> KnownParts<'a>
     ensures lists { result.lists.now ≡ known_at before.entry.lists.now i }
-    ensures pieces { IfSome result.pieces (λ made. slice_get before.entry.pieces.now i ≡ Some (Some made.now)) }
+    ensures fates { IfSome result.fates (λ f. slice_get before.entry.fates.now i ≡ Some (Some f)) }
 {
     KnownParts {
         lists: known_lists(before.lists, i),
-        pieces: pieces_at(before.pieces, i),
+        fates: known_fates(before.fates, i),
     }
 }
 
-fn pieces_at(pieces: &[Option<MadePieces>], i: usize) -> Option<&MadePieces>
-    ensures { IfSome result (λ made. slice_get pieces.now i ≡ Some (Some made.now)) }
+// The function that is known of what the device at this position does with destinations.
+fn known_fates(fates: &[Option<u32>], i: usize) -> Option<u32>
+    ensures { IfSome result (λ f. slice_get fates.now i ≡ Some (Some f)) }
 {
-    match pieces.get(i) {
-        Some(Some(made)) => Some(made),
-        _ => None,
+    match fates.get(i) {
+        Some(known) => *known,
+        None => None,
     }
 }
 
@@ -122,7 +123,7 @@ fn known_or_compiled(
     parts: KnownParts,
 ) -> Result<DeviceForm, NoMemory>
     requires known { IfSome known (λ n. IsNetworkForm tables.old.diagrams tables.old.fates n.now) }
-    requires parts { AreKnownParts tables.old.diagrams device.now.config parts }
+    requires parts { AreKnownParts tables.old.diagrams tables.old.fates device.now.config parts }
     ensures form { IfOk result (λ f. IsDeviceForm tables.new.diagrams tables.new.fates device.now f) }
     ensures kept { OnOk result (TablesGrow tables.old tables.new) }
 {
@@ -163,8 +164,7 @@ fn copy_of(alloc: Global, form: &DeviceForm) -> Result<DeviceForm, NoMemory>
     })
 }
 
-/// The form of a device, in these tables. `parts` are its lists whose functions the tables have already, and its pieces if they
-/// were made.
+/// The form of a device, in these tables. `parts` tells which of its functions the tables have already.
 ///
 /// # Errors
 ///
@@ -175,7 +175,7 @@ pub fn compile_device(
     device: &NetDevice,
     parts: KnownParts,
 ) -> Result<DeviceForm, NoMemory>
-    requires { AreKnownParts tables.old.diagrams device.now.config parts }
+    requires { AreKnownParts tables.old.diagrams tables.old.fates device.now.config parts }
     ensures form { IfOk result (λ f. IsDeviceForm tables.new.diagrams tables.new.fates device.now f) }
     ensures kept { TablesGrow tables.old tables.new }
 {
@@ -190,7 +190,7 @@ pub fn compile_device(
     let inside = tables.diagrams.first_match(&pieces)?;
     let pieces = outer_inside_pieces(alloc, rules)?;
     let outer_inside = tables.diagrams.first_match(&pieces)?;
-    let fates = add_fates(alloc, tables, config, parts.pieces)?;
+    let fates = add_fates(alloc, tables, config, parts.fates)?;
     Ok(DeviceForm {
         seats,
         outside,
@@ -206,15 +206,15 @@ fn add_fates(
     alloc: Global,
     tables: &mut Tables,
     config: &Config,
-    pieces: Option<&MadePieces>,
+    known: Option<u32>,
 ) -> Result<u32, NoMemory>
-    requires { IfSome pieces (λ made. ArePiecesOf config.now made.now) }
+    requires { IfSome known (IsFateFunction tables.old.diagrams tables.old.fates config.now) }
     ensures below { IfOk result (λ r. r < count_of tables.new.diagrams) }
     ensures kept { TablesGrow tables.old tables.new }
     ensures exact { IfOk result (λ r. (h : Header) → IsHeader h → HasFate config.now tables.new.fates (value_at tables.new.diagrams r (number h)) h.dst) }
 {
-    match pieces {
-        Some(made) => add_made(alloc, &mut tables.diagrams, &mut tables.fates, made),
+    match known {
+        Some(function) => Ok(function),
         None => add_device(alloc, &mut tables.diagrams, &mut tables.fates, config),
     }
 }

@@ -19,7 +19,7 @@ pub struct FormedNetwork<'a> {
 }
 
 impl<'a> FormedNetwork<'a> {
-    /// Compiles a network in these tables. Of its devices some lists may be functions of the tables already, and some pieces made.
+    /// Compiles a network in these tables, which may have some functions of its devices already.
     ///
     /// # Errors
     ///
@@ -30,7 +30,7 @@ impl<'a> FormedNetwork<'a> {
         world: WorldRef<'a>,
         before: Beforehand,
     ) -> Result<FormedNetwork<'a>, NoMemory>
-        requires { AreKnownBefore tables.diagrams world.network.now.devices before }
+        requires { AreKnownBefore tables.diagrams tables.fates world.network.now.devices before }
         ensures { IfOk result (IsFormedNetwork (world_of world.entry)) }
     {
         let form = compile_network(alloc, &mut tables, world, None, before)?;

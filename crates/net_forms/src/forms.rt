@@ -3,7 +3,7 @@
 ghost use Rattle.std.specs.Prelude.{◌≡◌, [], IfOk};
 
 use cube_diagram::Diagrams;
-use device_fates::{Fates, MadePieces};
+use device_fates::Fates;
 use link_sends::Wiring;
 use net_types::NoMemory;
 use net_view::WorldRef;
@@ -58,14 +58,16 @@ pub struct DeviceLists {
 #[derive(Clone, Copy)]
 pub struct Beforehand<'a> {
     pub lists: &'a [DeviceLists],
-    pub pieces: &'a [Option<MadePieces>],
+    /// The functions of what they do with destinations.
+    pub fates: &'a [Option<u32>],
 }
 
 /// What is known of one device before it is compiled.
 #[derive(Clone, Copy)]
 pub struct KnownParts<'a> {
     pub lists: &'a [KnownList],
-    pub pieces: Option<&'a MadePieces>,
+    /// The function of what it does with destinations.
+    pub fates: Option<u32>,
 }
 
 /// The functions of a device.

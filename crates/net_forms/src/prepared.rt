@@ -75,13 +75,12 @@ impl<'a> Prepared<'a> {
         let tables = Tables::new(alloc)?;
         let nothing = Beforehand {
             lists: &[],
-            pieces: &[],
+            fates: &[],
         };
         Prepared::with_known(alloc, tables, networks, nothing, nothing)
     }
 
-    /// Compiles two networks in these tables. Of the devices of both some lists may be functions of the tables already, and
-    /// some pieces made.
+    /// Compiles two networks in these tables, which may have some functions of the devices of both already.
     ///
     /// # Errors
     ///
@@ -93,8 +92,8 @@ impl<'a> Prepared<'a> {
         of_old: Beforehand,
         of_new: Beforehand,
     ) -> Result<Prepared<'a>, NoMemory>
-        requires old { AreKnownBefore tables.diagrams networks.old.network.now.devices of_old }
-        requires new { AreKnownBefore tables.diagrams networks.new.network.now.devices of_new }
+        requires old { AreKnownBefore tables.diagrams tables.fates networks.old.network.now.devices of_old }
+        requires new { AreKnownBefore tables.diagrams tables.fates networks.new.network.now.devices of_new }
         ensures { IfOk result (λ p. p ≡ worlds_of networks.entry) }
     {
         let Networks { old, new } = networks;

@@ -9,6 +9,6 @@ abbrev pub invariant-loop-i : goal.invariant-loop-i
 invariant-loop-i l = record {
   kept : TablesGrow l.fn.tables l.tables;
   known : IfSome l.known (λ n. IsNetworkForm l.tables.diagrams l.tables.fates n.now);
-  before : AreKnownBefore l.tables.diagrams l.devices l.before;
+  before : AreKnownBefore l.tables.diagrams l.tables.fates l.devices l.before;
   forms : AreDevices l.tables.diagrams l.tables.fates (take l.i l.devices) l.forms.items;
 }

@@ -5,4 +5,4 @@ use Rattle.net_forms.proofs.compile.compile_network.Goals as goal
 
 pub compile_devices-requires-clause-before : goal.compile_devices-requires-clause-before
 compile_devices-requires-clause-before c =
-    subst (λ (ds : List NetDevice). AreKnownBefore c.args.tables.now.diagrams ds c.args.before) (sym c.as_slice.ensures) c.requires.before
+    subst (λ (ds : List NetDevice). AreKnownBefore c.args.tables.now.diagrams c.args.tables.now.fates ds c.args.before) (sym c.as_slice.ensures) c.requires.before

@@ -19,4 +19,4 @@ invariant_of-result c =
     }
 
 pub compile_network-requires-2-clause-before : goal.compile_network-requires-2-clause-before
-compile_network-requires-2-clause-before c = before_kept c.args.tables.diagrams c.compile_network.new.tables.diagrams c.args.networks.new.network.now.devices c.args.of_new c.in_ok-before.ensures.kept.diagrams c.requires.new
+compile_network-requires-2-clause-before c = before_kept c.args.tables c.compile_network.new.tables c.args.networks.new.network.now.devices c.args.of_new c.in_ok-before.ensures.kept c.requires.new
