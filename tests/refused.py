@@ -42,6 +42,8 @@ def rows(scratch):
         found[f"ask-{workers}"] = asked("traces/two-defaults", "questions/two-defaults", *by)
         found[f"gen-{workers}"] = ["gen", "7", "3", *by]
         found[f"fabric-{workers}"] = ["compare", f"{scratch}/old", f"{scratch}/new", f"{scratch}/links", *by]
+        # So many routes that workers make them functions, by 140,000 requests: to be tried with --every.
+        found[f"leaves-{workers}"] = ["compare", f"{scratch}/leaves/old", f"{scratch}/leaves/new", f"{scratch}/leaves/links", *by]
     rewired = f"{EXAMPLES}/rewired"
     found["rewired"] = ["compare", f"{rewired}/old", f"{rewired}/new", f"{rewired}/links", f"{rewired}/newlinks"]
     with open(f"{EXAMPLES}/traces/nat-of-two-routers.words") as words:
@@ -74,6 +76,7 @@ def made(scratch):
     """What the rows need besides the examples, and the library."""
     networks = os.path.join(TOP, "bench", "networks.py")
     subprocess.run([sys.executable, networks, "fabric", scratch, "2", "16"], check=True)
+    subprocess.run([sys.executable, networks, "leaves", f"{scratch}/leaves", "4", "64"], check=True)
     os.mkdir(f"{scratch}/refused")
     with open(f"{scratch}/refused/R1.cfg", "w") as file:
         file.write("hostname R1\nrouter ospf 1\n")
