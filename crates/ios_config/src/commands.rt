@@ -49,7 +49,7 @@ pub fn effect(alloc: Global, bytes: &[u8], draft: &Draft, line: &Line) -> Result
 fn line_words(alloc: Global, bytes: &[u8], spans: &[Span]) -> Result<Vec<Text>, NoMemory>
     ensures { IfOk result (λ words. words.items ≡ map (piece bytes.now) spans.now) }
 {
-    let mut words = Vec::new(alloc);
+    let mut words = Vec::with_capacity(alloc, spans.len())?;
     for span in spans {
         words.push(Text::copy_of(alloc, part(bytes, *span))?)?;
     }

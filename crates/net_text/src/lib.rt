@@ -4,7 +4,7 @@
 //! of a line are separated by blanks, tabs and CRs.
 #![tactic(auto)]
 
-ghost use Rattle.std.specs.Prelude.{◌≡◌, ◌+◌, ◌-◌, ◌^◌, ◌≤◌, [], ◌++◌, IfOk, length, take, drop, position};
+ghost use Rattle.std.specs.Prelude.{◌≡◌, ◌+◌, ◌-◌, ◌^◌, ◌≤◌, [], ◌++◌, IfOk, OnOk, length, take, drop, position};
 ghost use Rattle.std.specs.List.{position_or_len};
 ghost use Rattle.net_text.specs.Limits.{text_limit, word_limit};
 ghost use Rattle.net_text.specs.Lines.{is_separator, is_line_end, is_indented, word_spans, lines_of, add_line, piece};
@@ -78,14 +78,17 @@ fn split_lines(alloc: Global, bytes: &[u8]) -> Result<Vec<Line>, NoMemory>
     ensures { IfOk result (λ lines. lines.items ≡ lines_of bytes.now) }
 {
     let mut found = Vec::new(alloc);
+    // Those of one line; the room is used again for the next one.
+    let mut line_words = Vec::new(alloc);
     let mut at = 0;
     let mut number = 1;
     while at < bytes.len() {
         let rest = after(bytes, at);
         let size = line_length(rest);
         let line = before(rest, size);
-        let words = words(alloc, line, at)?;
+        read_words(line, at, &mut line_words)?;
         let indent = is_indented(line);
+        let words = list_of(alloc, &line_words)?;
         add(
             &mut found,
             Line {
@@ -100,12 +103,12 @@ fn split_lines(alloc: Global, bytes: &[u8]) -> Result<Vec<Line>, NoMemory>
     Ok(found)
 }
 
-/// The words of a line that begins at byte `start` of the text.
-fn words(alloc: Global, line: &[u8], start: usize) -> Result<List<Span>, NoMemory>
+/// Reads the words of a line that begins at byte `start` of the text, in place of those that stand there.
+fn read_words(line: &[u8], start: usize, words: &mut Vec<Span>) -> Result<(), NoMemory>
     requires { start + length line.now ≤ text_limit }
-    ensures { IfOk result (λ words. words ≡ word_spans start line.now) }
+    ensures { OnOk result (words.new.items ≡ word_spans start line.now) }
 {
-    let mut words = Vec::new(alloc);
+    words.clear();
     let mut at = 0;
     while at < line.len() {
         let size = word_length(after(line, at));
@@ -117,7 +120,16 @@ fn words(alloc: Global, line: &[u8], start: usize) -> Result<List<Span>, NoMemor
         }
         at = at + size + 1;
     }
-    Ok(List::new(words))
+    Ok(())
+}
+
+/// The words, in room for them alone.
+fn list_of(alloc: Global, words: &[Span]) -> Result<List<Span>, NoMemory>
+    ensures { IfOk result (λ list. list ≡ words.now) }
+{
+    let mut list = Vec::with_capacity(alloc, words.len())?;
+    list.extend_from_slice(words)?;
+    Ok(List::new(list))
 }
 
 /// Adds a line that has a word, and leaves out one that has none.
