@@ -1,4 +1,5 @@
 pub mod SetLemmas
+pub mod KeyedLemmas
 pub mod StampLemmas
 pub mod ToldLemmas
 pub mod ScopeLemmas

@@ -23,9 +23,8 @@ use Rattle.set_walk.specs.declared.ends.OutcomeSet.{OutcomeSet}
 use Rattle.set_walk.specs.Sets.{InSet}
 use Rattle.set_walk.specs.Ways.{HasMove}
 use Rattle.set_walk.specs.Levels.{IsLevel, AreSteps}
-use Rattle.set_walk.specs.Outcomes.{AreEndsBelow, AddsOutcomes, EndsBy, AreEndsOf, AreLabels}
+use Rattle.set_walk.specs.Outcomes.{AddsOutcomes, EndsBy, AreEndsOf, AreLabels}
 use Rattle.set_walk.proofs.ToldLemmas.{move_none, told_kept, kept_move, told_below}
-use Rattle.set_walk.proofs.SetLemmas.{kept_below}
 use Rattle.set_walk.proofs.EndLemmas.{kept_outcome}
 
 -- ---- the ends of one number of moves
@@ -66,7 +65,7 @@ in_both f xs ys o = (
 ends_suc : (w : World) (start f0 f1 f2 : Functions) (domain : ℕ) (p : Place) (t n : ℕ) (steps : List Way) (a b : List OutcomeSet) → Keeps f0 f1 → AreEndsOf w start domain p t n f0 a → AreSteps w start domain p n f1 steps → AddsOutcomes f1 f2 (EndsBy f1 (n + 1 == t) steps) a b → AreEndsOf w start domain p t (suc n) f2 b
 ends_suc w start f0 f1 f2 domain p t n steps a b k old made add =
     record {
-      below = add.below;
+      below = add.told;
       exact = λ h v o.
           let s = state_at p h in
           let kept = kept_outcome f0 f1 a h o k old.below in
@@ -179,6 +178,3 @@ level_kept w start f g domain p n groups k l =
       told = told_kept f g groups k l.told;
       exact = λ h v u. let q = kept_move f g groups h (Go u.place u.header) k (told_below f groups l.told) in (λ x. (l.exact h v u).0 (q.0 x), λ x. q.1 ((l.exact h v u).1 x));
     }
-
-pub ends_below_kept : (f g : Functions) (a : List OutcomeSet) → Keeps f g → AreEndsBelow f a → AreEndsBelow g a
-ends_below_kept f g a k b x c = kept_below f g x.headers k (b x c)

@@ -1,4 +1,5 @@
 pub mod Sets
+pub mod Keyed
 pub mod Scopes
 pub mod Fits
 pub mod Ways

@@ -1,5 +1,5 @@
 -- The sets of the headers that visit a device.
-use Rattle.std.specs.Prelude.{ℕ, ◌≡◌, ◌<◌, ◌⊎◌, ◌↔◌, List, Option, Some, None, Contains, slice_get}
+use Rattle.std.specs.Prelude.{ℕ, ◌≡◌, ◌<◌, ◌↔◌, List, Option, Some, None, Contains}
 use Rattle.hdr_bits.specs.declared.header.Header.{Header}
 use Rattle.hdr_bits.specs.HeaderBits.{IsHeader}
 use Rattle.cube_diagram.specs.Functions.{Functions, count_of}
@@ -12,6 +12,7 @@ use Rattle.set_walk.specs.declared.step.Step.TheVariants as step
 use Rattle.set_walk.specs.declared.step.Way.{Way}
 use Rattle.set_walk.specs.declared.visits.DeviceVisitors.{DeviceVisitors}
 use Rattle.set_walk.specs.Sets.{InSet}
+use Rattle.set_walk.specs.Keyed.{StandOnceBy, Adds}
 use Rattle.set_walk.specs.Levels.{IsAt}
 
 -- the device to whose place the step goes on
@@ -33,13 +34,12 @@ abbrev pub AreVisitorsBelow : Functions → List DeviceVisitors → Type 0
 AreVisitorsBelow fs visitors = (x : DeviceVisitors) → Contains visitors x → x.headers < count_of fs
 
 -- each device stands once
-pub record StandApart (visitors : List DeviceVisitors) : Type 0 where
-  pub once : (i j : ℕ) (x y : DeviceVisitors) → slice_get visitors i ≡ Some x → slice_get visitors j ≡ Some y → x.device ≡ y.device → i ≡ j
+abbrev pub StandApart : List DeviceVisitors → Type 0
+StandApart = StandOnceBy (λ (x : DeviceVisitors). x.device)
 
 -- headers were added to the visitors, and none was lost
-pub record AddsVisitors (old_fs new_fs : Functions) (more : Header → ℕ → Type 0) (old new : List DeviceVisitors) : Type 0 where
-  pub below : AreVisitorsBelow new_fs new
-  pub exact : (h : Header) → IsHeader h → (d : ℕ) → HasVisitor new_fs new h d ↔ (HasVisitor old_fs old h d ⊎ more h d)
+abbrev pub AddsVisitors : Functions → Functions → (Header → ℕ → Type 0) → List DeviceVisitors → List DeviceVisitors → Type 0
+AddsVisitors = Adds AreVisitorsBelow HasVisitor
 
 -- by one of the groups the header is at a place of the device
 pub record ArrivesBy (fs : Functions) (groups : List Way) (h : Header) (d : ℕ) : Type 0 where

@@ -9,6 +9,7 @@
 
 mod circles;
 mod ends;
+mod fields;
 mod fits;
 mod hash;
 mod levels;

@@ -7,11 +7,12 @@ use Rattle.set_walk.specs.Outcomes.{AreEndsOf, AreOnce, AddsOutcomes, EndsBy}
 use Rattle.set_walk.specs.Visits.{AreVisitors, StandApart, AddsVisitors, ArrivesBy}
 use Rattle.set_walk.proofs.SetLemmas.{keeps_same, keeps_then, kept_below}
 use Rattle.set_walk.proofs.CircleLemmas.{is_later, later_level, later_moves, level_onward, ends_onward}
-use Rattle.set_walk.proofs.EndLemmas.{once_none}
+use Rattle.set_walk.proofs.KeyedLemmas.{all_kept, once_none}
+use Rattle.set_walk.proofs.EndLemmas.{by_ends}
 use Rattle.set_walk.proofs.LevelLemmas.{first_leads, lead_kept}
 use Rattle.set_walk.proofs.NetLemmas.{net_kept}
-use Rattle.set_walk.proofs.VisitorLemmas.{visitors_first, visitors_next, visitors_grown, visitors_onward, visitors_early, once_none as apart_none}
-use Rattle.set_walk.proofs.WalkLemmas.{ends_next, ends_first, level_kept, ends_below_kept, labels_early, labels_last}
+use Rattle.set_walk.proofs.VisitorLemmas.{visitors_first, visitors_next, visitors_grown, visitors_onward, visitors_early}
+use Rattle.set_walk.proofs.WalkLemmas.{ends_next, ends_first, level_kept, labels_early, labels_last}
 use Rattle.set_walk.proofs.visit_walk.labels_and_visitors.Goals as goal
 
 pub loop-n-init : goal.loop-n-init
@@ -27,7 +28,7 @@ loop-n-init c =
       visitors = subst (λ xs. AreVisitors w c.args.table.now c.args.domain c.args.place 0 c.args.table.now xs) (sym c.new-visitors.ensures.items) (visitors_first w c.args.table.now c.args.domain c.args.place);
       ends = subst (λ xs. AreEndsOf w c.args.table.now c.args.domain c.args.place c.args.ttl 0 c.args.table.now xs) (sym c.new-ends.ensures.items) (ends_first w c.args.table.now c.args.domain c.args.place c.args.ttl);
       once = subst AreOnce (sym c.new-ends.ensures.items) once_none;
-      apart = subst StandApart (sym c.new-visitors.ensures.items) apart_none;
+      apart = subst StandApart (sym c.new-visitors.ensures.items) once_none;
     }
 
 pub add_visitors-requires-clause-groups : goal.add_visitors-requires-clause-groups
@@ -108,7 +109,7 @@ add_ends-requires-clause-steps c =
     subst (AreTold t1) (sym c.deref-in-loop-n-2.ensures.value) next.told
 
 pub add_ends-requires-clause-ends : goal.add_ends-requires-clause-ends
-add_ends-requires-clause-ends c = ends_below_kept c.loop-n.table c.next_level.new.table c.loop-n.ends.items (keeps_then c.loop-n.table c.add_visitors.new.table c.next_level.new.table c.in_ok-add_visitors.ensures.kept c.in_ok-steps.ensures.kept) c.loop-n.invariant.ends.below
+add_ends-requires-clause-ends c = all_kept by_ends c.loop-n.table c.next_level.new.table c.loop-n.ends.items (keeps_then c.loop-n.table c.add_visitors.new.table c.next_level.new.table c.in_ok-add_visitors.ensures.kept c.in_ok-steps.ensures.kept) c.loop-n.invariant.ends.below
 
 pub returns-in_err-add_ends-clause-kept : goal.returns-in_err-add_ends-clause-kept
 returns-in_err-add_ends-clause-kept c =
