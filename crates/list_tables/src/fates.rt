@@ -1,5 +1,4 @@
-//! What devices with many routes do with destinations, made functions by the workers, each in tables of its own, and taken over
-//! from there.
+//! What devices do with destinations, made functions by the workers, each in tables of its own, and taken over from there.
 
 ghost use Rattle.std.specs.Prelude.{◌≡◌, ℕ, All, IfOk, IfSome, List, None, OnOk, Option, Some, slice_get, slice_set};
 ghost use Rattle.net_types.specs.declared.network.NetDevice.{NetDevice};
@@ -7,7 +6,7 @@ ghost use Rattle.net_forms.specs.Forms.{TablesGrow};
 ghost use Rattle.net_forms.specs.Known.{AreKnownFates};
 ghost use Rattle.list_tables.specs.Made.{IsFateShare};
 
-use crate::wanted::{WantedFates, wanted_fates};
+use crate::wanted::{WantedFates, makers, wanted_fates};
 use device_fates::add_device;
 use net_forms::Tables;
 use net_types::{NetDevice, NoMemory};
@@ -30,9 +29,8 @@ pub(crate) struct FateShare {
     pub(crate) made: Vec<MadeFates>,
 }
 
-/// The functions of what the devices do with destinations, by their positions, if they have many routes together; none of those
-/// that `known` marks. What a device has none of is made where the network is compiled, as is that for which there was no
-/// memory.
+/// The functions of what the devices do with destinations, by their positions. A device has none where `known` marks it, where
+/// its worker had no memory for it, and where all have few pieces together: it is then made where the network is compiled.
 pub(crate) fn fates_by_workers<R: Threads + Sync, G>(
     by: &Workers<R, G>,
     alloc: Global,
@@ -70,7 +68,7 @@ fn fate_shares<R: Threads + Sync, G>(
     let make = move |worker: usize| -> Option<FateShare>
         ensures { IfSome result (IsFateShare devices.entry.now) }
     { fate_share(alloc, devices, wanted, worker) };
-    let made = map_indices(by.rt, alloc, by.count as usize, &make)?;
+    let made = map_indices(by.rt, alloc, makers(wanted), &make)?;
     Ok(made)
 }
 
@@ -83,13 +81,13 @@ fn fate_share(
 ) -> Option<FateShare>
     ensures { IfSome result (IsFateShare devices.now) }
 {
-    match made_fates(alloc, devices, wanted, worker) {
+    match made_share(alloc, devices, wanted, worker) {
         Ok(share) => Some(share),
         Err(_) => None,
     }
 }
 
-fn made_fates(
+fn made_share(
     alloc: Global,
     devices: &[NetDevice],
     wanted: &[WantedFates],

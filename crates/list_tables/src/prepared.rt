@@ -24,8 +24,9 @@ use steal_pool::Workers;
 #[derive(Drop)]
 pub(crate) struct KnownBoth {
     pub(crate) lists: KnownLists,
-    /// The functions of what the devices do with destinations, by their positions, as are those of the new network.
+    /// The functions of what the old network's devices do with destinations, by their positions.
     pub(crate) old_fates: Vec<Option<u32>>,
+    /// The same of the new network's.
     pub(crate) new_fates: Vec<Option<u32>>,
 }
 

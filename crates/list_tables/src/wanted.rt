@@ -38,8 +38,8 @@ pub(crate) struct WantedFates {
     pub(crate) worker: usize,
 }
 
-/// Which devices of the new network the old one has alike, by their positions: such a device is compiled once. Workers compare
-/// them.
+/// Which devices of the new network are equal to one of the old, by their positions: such a device is compiled once. Workers
+/// compare them.
 pub(crate) fn known_devices<R: Threads + Sync, G>(
     by: &Workers<R, G>,
     alloc: Global,
@@ -90,9 +90,9 @@ pub(crate) fn wanted_lists(
     Ok(wanted)
 }
 
-/// The devices that `known` doesn't mark, each with its worker, if there are several with many routes together. Workers have
-/// about as many pieces each: one of a route, and of an interface up to three, for its broadcast address, its own address and
-/// its subnet.
+/// The devices that `known` doesn't mark, each with its worker, if they have many pieces together and there are several workers
+/// for them. Workers have about as many pieces each, one counted for a route and three for an interface: its broadcast address,
+/// its own address and its subnet.
 pub(crate) fn wanted_fates(
     alloc: Global,
     devices: &[NetDevice],
@@ -113,11 +113,19 @@ pub(crate) fn wanted_fates(
         wanted.push(WantedFates { device, worker })?;
         before = before.saturating_add(piece_count(&devices[device].config));
     }
-    // A device alone would only be made in one table and then taken over to another.
-    if wanted.len() < 2 {
+    // What one worker makes alone would only be made in one table and then taken over to another.
+    if wanted.iter().all(|w| w.worker == 0) {
         wanted.clear();
     }
     Ok(wanted)
+}
+
+/// How many workers have some of them.
+pub(crate) fn makers(wanted: &[WantedFates]) -> usize {
+    match wanted.last() {
+        None => 0,
+        Some(last) => last.worker.saturating_add(1),
+    }
 }
 
 // How many pieces the devices have that aren't known.
@@ -131,6 +139,7 @@ fn unknown_pieces(devices: &[NetDevice], known: &[bool]) -> usize {
     pieces
 }
 
+// About how many pieces the function of the device is made of.
 fn piece_count(config: &Config) -> usize {
     let interfaces = config.interfaces.as_slice().len();
     let routes = config.routes.as_slice().len();

@@ -3,7 +3,7 @@ use Rattle.net_types.specs.declared.network.NetDevice.{NetDevice}
 use Rattle.device_fates.specs.Fates.{IsFateFunction}
 use Rattle.net_forms.specs.declared.forms.Tables.{Tables}
 use Rattle.list_tables.proofs.KnownLemmas.{made_fates_more, same_item}
-use Rattle.list_tables.proofs.fates.made_fates.Goals as goal
+use Rattle.list_tables.proofs.fates.made_share.Goals as goal
 
 pub loop-one-preserved : goal.loop-one-preserved
 loop-one-preserved c =
