@@ -24,10 +24,13 @@ fn main(rt: HostRuntime) -> io::Result<()> {
         spines: number(words.next(), 2).clamp(1, 64),
         leaves: number(words.next(), 4).clamp(1, 4096),
     };
-    let kind = kind_of(words.next());
-    let changes = number(words.next(), 4);
-    let timed = words.next().is_some();
-    measure(&rt, rt.alloc(), fabric, kind, changes, timed)
+    let plan = Plan {
+        fabric,
+        kind: kind_of(words.next()),
+        changes: number(words.next(), 4),
+        timed: words.next().is_some(),
+    };
+    measure(&rt, rt.alloc(), plan)
 }
 
 fn number(word: Option<String>, otherwise: u32) -> u32 {
@@ -49,31 +52,50 @@ fn kind_of(word: Option<String>) -> Kind {
     }
 }
 
-fn measure<R: AllocGlobal + Clock + Files + Print>(
-    rt: &R,
-    alloc: Global,
+// What is done with the network once it is open.
+#[derive(Clone, Copy)]
+struct Plan {
     fabric: Fabric,
     kind: Kind,
     changes: u32,
+    /// Whether times are printed.
     timed: bool,
+}
+
+fn measure<R: AllocGlobal + Clock + Files + Print>(
+    rt: &R,
+    alloc: Global,
+    plan: Plan,
 ) -> io::Result<()> {
-    let links = links(alloc, fabric).map_err(out_of_memory)?;
-    let network = network(alloc, fabric).map_err(out_of_memory)?;
+    let links = links(alloc, plan.fabric).map_err(out_of_memory)?;
+    let network = network(alloc, plan.fabric).map_err(out_of_memory)?;
     let start = Instant::now(rt)?;
     let mut live = LiveNetwork::open(alloc, network, &links).map_err(out_of_memory)?;
+    replace_devices(rt, alloc, &mut live, plan, start)
+}
+
+// Replaces devices of the network, which was opened from that time on until now.
+fn replace_devices<R: AllocGlobal + Clock + Files + Print>(
+    rt: &R,
+    alloc: Global,
+    live: &mut LiveNetwork,
+    plan: Plan,
+    start: Instant,
+) -> io::Result<()> {
     let opened = start.elapsed(rt)?;
     let mut times = Vec::new(alloc);
     let mut first = 0;
-    for turn in 0..changes {
-        let time = change(rt, alloc, &mut live, fabric, kind, turn)?;
+    for turn in 0..plan.changes {
+        let time = change(rt, alloc, live, plan, turn)?;
         times.push(time)?;
-        if timed && turn == 0 {
+        if plan.timed && turn == 0 {
             first = pages(rt);
         }
     }
     let places = live.ways().ways.positions.len();
+    let changes = plan.changes;
     println!(rt; "places {places} changes {changes}")?;
-    if timed {
+    if plan.timed {
         times.sort_unstable();
         print_times(rt, opened, &times)?;
         let last = pages(rt);
@@ -98,12 +120,11 @@ fn change<R: Clock>(
     rt: &R,
     alloc: Global,
     live: &mut LiveNetwork,
-    fabric: Fabric,
-    kind: Kind,
+    plan: Plan,
     turn: u32,
 ) -> io::Result<u64> {
     let network = live.world().network;
-    let next = version(alloc, network, fabric, kind, turn).map_err(out_of_memory)?;
+    let next = version(alloc, network, plan.fabric, plan.kind, turn).map_err(out_of_memory)?;
     let Some(next) = next else {
         return Ok(0);
     };

@@ -69,10 +69,20 @@ fn run_one(alloc: Global, number: u64, changes: u64, links: &Links) -> Result<Co
     let mut draws = Draws::of(number);
     let network = network(alloc, &mut draws)?;
     let mut live = LiveNetwork::open(alloc, network, links)?;
-    let mut all = compare(alloc, &live, links)?;
+    run_changes(alloc, &mut live, &mut draws, changes, links)
+}
+
+fn run_changes(
+    alloc: Global,
+    live: &mut LiveNetwork,
+    draws: &mut Draws,
+    changes: u64,
+    links: &Links,
+) -> Result<Compared, NoMemory> {
+    let mut all = compare(alloc, live, links)?;
     for _turn in 0..changes {
-        change(alloc, &mut live, &mut draws)?;
-        let found = compare(alloc, &live, links)?;
+        change(alloc, live, draws)?;
+        let found = compare(alloc, live, links)?;
         all = all.with(found);
     }
     Ok(all)

@@ -3,6 +3,7 @@
 use crate::plan::{DEVICES, INTERFACES};
 use crate::sets::{headers_of, same_sets};
 use crate::walks::{same_labels, same_visits, walk_all};
+use cube_diagram::Diagrams;
 use live_network::{LiveNetwork, LiveWays};
 use net_types::{Duplicate, Links, NoMemory, Place};
 use set_walk::{PlaceWays, Way};
@@ -70,11 +71,19 @@ pub(crate) fn compare(
 ) -> Result<Compared, NoMemory> {
     let network = live.world().network.copy(alloc)?;
     let anew = LiveNetwork::open(alloc, network, links)?;
+    compare_places(alloc, live, &anew)
+}
+
+fn compare_places(
+    alloc: Global,
+    live: &LiveNetwork,
+    anew: &LiveNetwork,
+) -> Result<Compared, NoMemory> {
     let mut compared = Compared::none();
     for device in 0..DEVICES {
         for interface in 0..INTERFACES {
             let place = Place { device, interface };
-            compare_place(alloc, live, &anew, place, &mut compared)?;
+            compare_place(alloc, live, anew, place, &mut compared)?;
         }
     }
     Ok(compared)
@@ -127,10 +136,21 @@ fn have_same(
 ) -> Result<bool, NoMemory> {
     let mut first = one.tables.diagrams.twin()?;
     let mut second = other.tables.diagrams.twin()?;
+    have_same_in(alloc, &mut first, &mut second, a, b)
+}
+
+// The same, of ways in these tables.
+fn have_same_in(
+    alloc: Global,
+    first: &mut Diagrams,
+    second: &mut Diagrams,
+    a: &[Way],
+    b: &[Way],
+) -> Result<bool, NoMemory> {
     for way in a.iter().chain(b.iter()) {
-        let one = headers_of(&mut first, a, &way.step)?;
-        let other = headers_of(&mut second, b, &way.step)?;
-        if !same_sets(alloc, &mut first, one, &second, other)? {
+        let one = headers_of(first, a, &way.step)?;
+        let other = headers_of(second, b, &way.step)?;
+        if !same_sets(alloc, first, one, second, other)? {
             return Ok(false);
         }
     }
