@@ -4,7 +4,7 @@
     refused.py PROGRAM [--rows NAME,..] [--every N] [--jobs J] [--seconds S]
 
 Each row is a command over files of examples/ or of bench/networks.py: of `review`, or of `rollout` where PROGRAM's name begins so.
-It is run once with all memory; then for each number N, from 1 on
+The rows of many requests stand there with --every alone. It is run once with all memory; then for each number N, from 1 on
 until a run makes fewer requests, once with the Nth request refused alone and once with all from the Nth on refused. A thread that
 can't be started is a request that is refused, too. With --every N each Nth number is tried alone. No run may end in another way, take
 longer than S seconds (60), or end by a signal. The last line is 'N passed, M failed'.
@@ -31,7 +31,7 @@ def asked(net, questions, *more):
     return ["ask", f"{EXAMPLES}/{net}/net", f"{EXAMPLES}/{net}/links", f"{EXAMPLES}/{questions}", *more]
 
 
-def rows(scratch):
+def rows(scratch, every):
     """The words of each row, by its name. Those that work with several workers stand there once for each number."""
     found = {}
     for workers in ("1", "2"):
@@ -42,8 +42,11 @@ def rows(scratch):
         found[f"ask-{workers}"] = asked("traces/two-defaults", "questions/two-defaults", *by)
         found[f"gen-{workers}"] = ["gen", "7", "3", *by]
         found[f"fabric-{workers}"] = ["compare", f"{scratch}/old", f"{scratch}/new", f"{scratch}/links", *by]
-        # So many routes that workers make them functions, by 140,000 requests: to be tried with --every.
-        found[f"leaves-{workers}"] = ["compare", f"{scratch}/leaves/old", f"{scratch}/leaves/new", f"{scratch}/leaves/links", *by]
+    if every > 1:
+        # So many routes that workers make them functions, by 140,000 requests.
+        for workers in ("2", "4"):
+            by = ["--workers", workers]
+            found[f"leaves-{workers}"] = ["compare", f"{scratch}/leaves/old", f"{scratch}/leaves/new", f"{scratch}/leaves/links", *by]
     rewired = f"{EXAMPLES}/rewired"
     found["rewired"] = ["compare", f"{rewired}/old", f"{rewired}/new", f"{rewired}/links", f"{rewired}/newlinks"]
     with open(f"{EXAMPLES}/traces/nat-of-two-routers.words") as words:
@@ -163,7 +166,7 @@ def main():
         start = (program, made(scratch), scratch, seconds)
         with multiprocessing.Pool(jobs) as pool:
             of_rollout = os.path.basename(program).startswith("rollout")
-            for name, row in (rollout_rows() if of_rollout else rows(scratch)).items():
+            for name, row in (rollout_rows() if of_rollout else rows(scratch, every)).items():
                 if only and name not in only:
                     continue
                 right, wrong, is_row = try_row(pool, jobs, every, start, name, row)
