@@ -104,12 +104,14 @@ pub(crate) fn wanted_fates(
     if all < MANY_PIECES {
         return Ok(wanted);
     }
+    let last = (workers as usize).saturating_sub(1);
     let mut before: usize = 0;
     for device in 0..devices.len() {
         if is_known_at(known, device) {
             continue;
         }
-        let worker = before.saturating_mul(workers as usize) / all;
+        // Devices without pieces behind all others are the last worker's too.
+        let worker = (before.saturating_mul(workers as usize) / all).min(last);
         wanted.push(WantedFates { device, worker })?;
         before = before.saturating_add(piece_count(&devices[device].config));
     }
