@@ -14,11 +14,19 @@ use std::marker::Model;
 /// The fates that were met, each with a number: its position. Equal fates of all devices share one number, and a number
 /// keeps its fate. Of two fates with one hash the later one drives out the other, which gets a new number where it is
 /// met again.
-#[derive(Drop)]
 pub struct Fates {
     fates: Vec<Fate>,
     /// The number of a fate by its hash.
     numbers: HashMap<u64, u32>,
+}
+
+impl Drop for Fates {
+    fn drop(self) {
+        let Fates {
+            fates: _,
+            numbers: _,
+        } = self;
+    }
 }
 
 impl Model for Fates {

@@ -1,6 +1,6 @@
 -- Lines that are gone through beside those of another file.
-use Rattle.std.proofs.Common.{◌≡◌, ℕ, ◌+◌, ◌<◌, ◌≤◌, ◌^◌, Bool, true, false, List, [], ◌∷◌, ◌++◌, length, take, drop, get_or, map, refl, sym, ap, subst, ◌∙◌, arith, append_assoc}
-use Rattle.std.specs.Prelude.{Option, Some, None, Result, Ok, Err, IfOk, OnOk}
+use Rattle.std.proofs.Common.{◌≡◌, ℕ, ◌+◌, ◌<◌, ◌≤◌, Bool, false, List, [], ◌∷◌, ◌++◌, length, take, drop, get_or, map, refl, sym, ap, subst, ◌∙◌, append_assoc}
+use Rattle.std.specs.Prelude.{Option, Some, None, Result, Ok, Err, IfOk}
 use Rattle.std.proofs.lemmas.List.{append-nil, at_drop_more, drop_all, take_more, map-append}
 use Rattle.ios_config.specs.declared.passed.Mode.TheVariants as mode
 use Rattle.text_tallies.specs.Tallies.{AreSeen}
@@ -8,9 +8,9 @@ use Rattle.doctor_warnings.specs.declared.passing.Beside.{Beside}
 use Rattle.doctor_warnings.specs.declared.told.ToldLine.{ToldLine}
 use Rattle.doctor_warnings.specs.declared.warning.Warning.{Warning}
 use Rattle.doctor_warnings.specs.declared.warning.Reason.{Reason}
-use Rattle.doctor_warnings.specs.Beside.{AreKeys, IsBeside, IsGone, IsJudged, IsMarked, IsTold}
+use Rattle.doctor_warnings.specs.Beside.{IsBeside, IsGone, IsJudged, IsMarked, IsTold}
 use Rattle.doctor_warnings.specs.Told.{key}
-use Rattle.doctor_warnings.specs.Warnings.{is_only_here, passed_behind, passed_by, reason_by, reason_of, look_of}
+use Rattle.doctor_warnings.specs.Warnings.{passed_behind, passed_by, reason_by, reason_of, look_of}
 
 -- no other file
 pub judged_alone : (ks : Option (List (List ℕ))) (before : List (List ℕ)) (k : List ℕ) → IsBeside ks before None → IsJudged ks before k false None

@@ -1,12 +1,9 @@
 -- All that is told of a file, one kind after the other.
-use Rattle.std.proofs.Common.{◌≡◌, ℕ, Bool, List, ◌++◌, map, refl, ap, ◌∙◌, append_assoc}
-use Rattle.std.specs.Prelude.{Option, Some, None, option_map, option_to_list, Result, Ok, Err, OnOk}
+use Rattle.std.proofs.Common.{◌≡◌, ℕ, Bool, List, ◌++◌, ap, ◌∙◌, append_assoc}
+use Rattle.std.specs.Prelude.{Option, option_map, option_to_list, Result, Ok, Err, OnOk}
 use Rattle.ios_config.specs.Reads.{effects, refusal}
-use Rattle.doctor_warnings.specs.declared.examined.Examined.{Examined}
-use Rattle.doctor_warnings.specs.declared.files.TextFile.{TextFile}
 use Rattle.doctor_warnings.specs.declared.warning.Warning.{Warning}
 use Rattle.doctor_warnings.specs.Readings.{config_by}
-use Rattle.doctor_warnings.specs.Told.{keys}
 use Rattle.doctor_warnings.specs.Warnings.{alone_warnings, config_warnings, file_warnings, passed_warnings, refused_warning}
 
 then_more : {A : Type 0} (old mid new a b : List A) → mid ≡ old ++ a → new ≡ mid ++ b → new ≡ old ++ (a ++ b)

@@ -1,7 +1,6 @@
 -- One step more of the loops over lines and files.
 use Rattle.std.proofs.Common.{◌≡◌, ℕ, suc, zero, ◌+◌, ◌-◌, ◌<◌, ◌≤◌, true, false, List, [], ◌∷◌, ◌++◌, length, take, drop, get_or, map, refl, sym, ap, ◌∙◌, arith, append_assoc}
 use Rattle.std.specs.Prelude.{Bool, Option, Some, cond, find}
-use Rattle.std.specs.Str.{bytes_eq}
 use Rattle.std.proofs.lemmas.List.{at_drop_more, map-append, take_all, take_more}
 use Rattle.net_text.specs.Lines.{is_separator}
 use Rattle.ios_config.specs.declared.passed.PassedLine.{PassedLine}

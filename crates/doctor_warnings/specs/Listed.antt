@@ -24,6 +24,10 @@ abbrev pub lines_if_any : Option Texts → List ListedLine
 lines_if_any None = []
 lines_if_any (Some t) = folder_lines t
 
+-- those of a folder and of another one, where all are asked for
+abbrev pub listed_if : Bool → Texts → Option Texts → List ListedLine
+listed_if all old new = if all then folder_lines old ++ lines_if_any new else []
+
 -- *the listed lines*: exactly those of both folders that are passed over, where all are asked for
 abbrev pub listed : Subject → List ListedLine
 listed s = if s.all then folder_lines s.old ++ lines_if_any s.new else []

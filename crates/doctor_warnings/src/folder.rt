@@ -7,7 +7,7 @@ ghost use Rattle.ios_config.specs.Reads.{effects, refusal};
 ghost use Rattle.doctor_warnings.specs.Beside.{IsBeside};
 ghost use Rattle.doctor_warnings.specs.Sides.{files_beside, files_in, texts_in};
 ghost use Rattle.doctor_warnings.specs.Told.{keys};
-ghost use Rattle.doctor_warnings.specs.Warnings.{alone_warnings, empty_warnings, file_named, file_warnings, folder_warnings, is_alone, other_keys, refused_warning, unread_warnings};
+ghost use Rattle.doctor_warnings.specs.Warnings.{alone_warnings, empty_warnings, file_named, file_warnings, folder_warnings, is_alone, other_keys, passed_warnings, refused_warning, unread_warnings};
 
 use crate::configs::add_config;
 use crate::examined::Examined;
@@ -102,12 +102,38 @@ fn add_file(
         ++ file_warnings (is_alone (files_beside other.entry) file.now.file.name) (other_keys (files_beside other.entry) file.now.file.name) (path_in folder.now file.now.file.name) file.now.file.bytes) }
 {
     let path = path_in(alloc, folder, &file.file.name)?;
-    let named = file_beside(&file.file.name, other);
-    add_alone(alloc, is_alone(&file.file.name, other), &path, warnings)?;
-    add_refusal(alloc, &path, file, warnings)?;
-    let mut beside = beside_of(alloc, named)?;
-    add_passed(alloc, &mut beside, &path, file, warnings)?;
-    add_config(alloc, &path, file, warnings)
+    add_file_at(alloc, &path, other, file, warnings)
+}
+
+/// Adds what is told of the file of this path.
+fn add_file_at(
+    alloc: Global,
+    path: &Text,
+    other: Option<&Folder>,
+    file: &Examined,
+    warnings: &mut Vec<Warning>,
+) -> Result<(), NoMemory>
+    ensures { OnOk result (warnings.new.items ≡ warnings.old.items
+        ++ file_warnings (is_alone (files_beside other.entry) file.now.file.name) (other_keys (files_beside other.entry) file.now.file.name) path.now file.now.file.bytes) }
+{
+    add_alone(alloc, is_alone(&file.file.name, other), path, warnings)?;
+    add_refusal(alloc, path, file, warnings)?;
+    add_beside(alloc, other, path, file, warnings)?;
+    add_config(alloc, path, file, warnings)
+}
+
+/// Adds what is told of a file's lines that are passed over, beside the other folder's file of this name.
+fn add_beside(
+    alloc: Global,
+    other: Option<&Folder>,
+    path: &Text,
+    file: &Examined,
+    warnings: &mut Vec<Warning>,
+) -> Result<(), NoMemory>
+    ensures { OnOk result (warnings.new.items ≡ warnings.old.items ++ passed_warnings (other_keys (files_beside other.entry) file.now.file.name) path.now file.now.file.bytes) }
+{
+    let mut beside = beside_of(alloc, file_beside(&file.file.name, other))?;
+    add_passed(alloc, &mut beside, path, file, warnings)
 }
 
 /// The path of a file.

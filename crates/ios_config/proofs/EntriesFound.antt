@@ -1,6 +1,6 @@
 -- The lines that write entries, among the lines so far.
-use Rattle.std.proofs.Common.{◌≡◌, ℕ, ◌+◌, ◌<◌, ◌≤◌, List, [], ◌∷◌, ◌++◌, length, refl, sym, ap, ◌∙◌, drop, get_or, append-nil, append_assoc}
-use Rattle.std.specs.Prelude.{Option, Some, None, option_to_list}
+use Rattle.std.proofs.Common.{◌≡◌, ℕ, ◌+◌, ◌<◌, ◌≤◌, List, [], ◌∷◌, ◌++◌, length, sym, ap, ◌∙◌, drop, get_or, append-nil, append_assoc}
+use Rattle.std.specs.Prelude.{option_to_list}
 use Rattle.std.proofs.lemmas.List.{at_drop_more, drop_all}
 use Rattle.net_text.specs.declared.Line.{Line}
 use Rattle.net_text.specs.Lines.{lines_of}
@@ -8,7 +8,6 @@ use Rattle.ios_lines.specs.declared.effect.Effect.{Effect}
 use Rattle.ios_config.specs.declared.draft.Draft.{Draft}
 use Rattle.ios_config.specs.declared.entries.EntryLine.{EntryLine}
 use Rattle.ios_config.specs.Rules.{about_list}
-use Rattle.ios_config.specs.Reads.{line_effect}
 use Rattle.ios_config.specs.Draft.{parts, parts_of}
 use Rattle.ios_config.specs.Effects.{effect_of}
 use Rattle.ios_config.specs.Answers.{seen_in}
@@ -43,11 +42,3 @@ next_found bytes lines i l d e before after k g h m n r =
 pub all_found : (bytes : List ℕ) (lines : List Line) (i : ℕ) (found : List EntryLine) → length lines ≤ i → AreFound bytes lines i found → found ≡ entry_lines bytes
 all_found bytes lines i found k r =
     sym (ap (λ ls. found ++ entries_after bytes (so_far bytes lines i) ls) (drop_all i lines k) ∙ append-nil found) ∙ r
-
--- what a line writes, if it writes an entry, is added
-pub added_some : (found now : List EntryLine) (o : Option EntryLine) (e : EntryLine) → o ≡ Some e → now ≡ found ++ e ∷ [] → now ≡ found ++ option_to_list o
-added_some found now o e s n = n ∙ ap (λ x. found ++ option_to_list x) (sym s)
-
-pub added_none : (found now : List EntryLine) (o : Option EntryLine) → ((e : EntryLine) → o ≡ Some e → ⊥) → now ≡ found → now ≡ found ++ option_to_list o
-added_none found now None h n = n ∙ sym (append-nil found)
-added_none found now (Some e) h n = absurd (h e refl)

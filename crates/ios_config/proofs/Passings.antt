@@ -141,11 +141,18 @@ fewer bytes (Err e) h = tt
 
 -- ---- an examination
 
-pub counted_ok : {E : Type 0} (bytes : List ℕ) (s : Survey) (r : Result Examination E) → IsSurvey bytes s → IfOk r (λ e. e.passed ≡ s.passed) → IfOk r (λ e. sum_by line_count e.passed.items ≡ passed (effects bytes))
-counted_ok bytes s (Ok e) h k = count_all bytes e.passed.items (ap (λ v. v.items) k ∙ h.passed)
-counted_ok bytes s (Err x) h k = tt
+pub counted_ok : {E : Type 0} (bytes : List ℕ) (r : Result Examination E) → IfOk r (λ e. e.passed.items ≡ passed_lines bytes) → IfOk r (λ e. sum_by line_count e.passed.items ≡ passed (effects bytes))
+counted_ok bytes (Ok e) h = count_all bytes e.passed.items h
+counted_ok bytes (Err x) h = tt
 
-pub fewer_ok : {E : Type 0} (bytes : List ℕ) (s : Survey) (r : Result Examination E) → IsSurvey bytes s → IfOk r (λ e. Judges s.refusal (parts s.draft) e.reading)
-    → IfOk r (λ e. IfOk e.reading (λ r. length r.config.interfaces < length bytes))
-fewer_ok bytes s (Ok e) h k = fewer bytes e.reading (says bytes s e.reading h k)
-fewer_ok bytes s (Err x) h k = tt
+pub fewer_ok : {E : Type 0} (bytes : List ℕ) (r : Result Examination E) → IfOk r (λ e. Says bytes e.reading) → IfOk r (λ e. IfOk e.reading (λ r. length r.config.interfaces < length bytes))
+fewer_ok bytes (Ok e) h = fewer bytes e.reading h
+fewer_ok bytes (Err x) h = tt
+
+pub passed_ok : {E : Type 0} (bytes : List ℕ) (s : Survey) (r : Result Examination E) → IsSurvey bytes s → IfOk r (λ e. e.passed ≡ s.passed) → IfOk r (λ e. e.passed.items ≡ passed_lines bytes)
+passed_ok bytes s (Ok e) h k = ap (λ v. v.items) k ∙ h.passed
+passed_ok bytes s (Err x) h k = tt
+
+pub says_ok : {E : Type 0} (bytes : List ℕ) (s : Survey) (r : Result Examination E) → IsSurvey bytes s → IfOk r (λ e. Judges s.refusal (parts s.draft) e.reading) → IfOk r (λ e. Says bytes e.reading)
+says_ok bytes s (Ok e) h k = says bytes s e.reading h k
+says_ok bytes s (Err x) h k = tt

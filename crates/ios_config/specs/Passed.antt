@@ -75,6 +75,13 @@ Says bytes (Err r) = Refused bytes r
 
 -- ---- the steps
 
+-- no line
+pub record IsNew (s : Survey) : Type 0 where
+  pub parts : parts s.draft ≡ parts_of []
+  pub passed : s.passed.items ≡ []
+  pub under : s.under ≡ None
+  pub refusal : s.refusal ≡ None
+
 -- one more line of this effect
 pub record Adds (old new : Survey) (l : Line) (e : Effect) : Type 0 where
   pub parts : parts new.draft ≡ parts_after (parts old.draft) e

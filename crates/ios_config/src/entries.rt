@@ -1,8 +1,9 @@
 //! The lines that write the entries of access lists.
-ghost use Rattle.std.specs.Prelude.{◌≡◌, ◌≤◌, IfOk, Some, length};
+ghost use Rattle.std.specs.Prelude.{◌≡◌, ◌≤◌, ◌++◌, [], IfOk, Some, length, option_to_list};
 ghost use Rattle.net_text.specs.Limits.{text_limit};
 ghost use Rattle.net_text.specs.Lines.{lines_of};
 ghost use Rattle.ios_config.specs.EntryLines.{last_byte, entry_written, entry_lines};
+ghost use Rattle.ios_config.specs.Draft.{parts, parts_of};
 ghost use Rattle.ios_config.specs.Passed.{first_byte};
 ghost use Rattle.ios_config.specs.Rules.{about_list};
 
@@ -46,16 +47,61 @@ fn entries_in(alloc: Global, bytes: &[u8], lines: &[Line]) -> Result<Vec<EntryLi
     requires lines { lines.now ≡ lines_of bytes.now }
     ensures { IfOk result (λ found. found.items ≡ entry_lines bytes.now) }
 {
-    let mut draft = Draft::new(alloc);
     let mut found = Vec::new(alloc);
+    find_entries(alloc, bytes, lines, &mut found)?;
+    Ok(found)
+}
+
+fn find_entries(
+    alloc: Global,
+    bytes: &[u8],
+    lines: &[Line],
+    found: &mut Vec<EntryLine>,
+) -> Result<(), NoMemory>
+    requires size { length bytes.now ≤ text_limit }
+    requires lines { lines.now ≡ lines_of bytes.now }
+    requires found { found.old.items ≡ [] }
+    ensures { IfOk result (λ _. found.new.items ≡ entry_lines bytes.now) }
+{
+    let mut draft = Draft::new(alloc);
+    entries_by(alloc, bytes, lines, &mut draft, found)
+}
+
+/// The entries of the lines, each by what the lines before it have made.
+fn entries_by(
+    alloc: Global,
+    bytes: &[u8],
+    lines: &[Line],
+    draft: &mut Draft,
+    found: &mut Vec<EntryLine>,
+) -> Result<(), NoMemory>
+    requires size { length bytes.now ≤ text_limit }
+    requires lines { lines.now ≡ lines_of bytes.now }
+    requires draft { parts draft.old ≡ parts_of [] }
+    requires found { found.old.items ≡ [] }
+    ensures { IfOk result (λ _. found.new.items ≡ entry_lines bytes.now) }
+{
     for line in lines {
-        let effect = effect(alloc, bytes, &draft, line)?;
-        if let Some(entry) = entry_written(alloc, line, &effect)? {
-            found.push(entry)?;
-        }
+        let effect = effect(alloc, bytes, draft, line)?;
+        note_entry(alloc, line, &effect, found)?;
         draft.apply(alloc, effect)?;
     }
-    Ok(found)
+    Ok(())
+}
+
+/// Adds the entry that a line of this effect writes.
+fn note_entry(
+    alloc: Global,
+    line: &Line,
+    effect: &Effect,
+    found: &mut Vec<EntryLine>,
+) -> Result<(), NoMemory>
+    ensures { IfOk result (λ _. found.new.items ≡ found.old.items ++ option_to_list (entry_written line.now (about_list effect.now))) }
+{
+    if let Some(entry) = entry_written(alloc, line, effect)? {
+        found.push(entry)?;
+    }
+    Ok(())
 }
 
 /// The entry that a line of this effect writes.

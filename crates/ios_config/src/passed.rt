@@ -1,12 +1,12 @@
 //! Reading a text with the lines that are passed over, and whether or not it is refused.
-ghost use Rattle.std.specs.Prelude.{◌≡◌, ◌≤◌, ◌<◌, ◌+◌, [], IfOk, None, is_some, length, sum_by};
+ghost use Rattle.std.specs.Prelude.{◌≡◌, ◌≤◌, ◌<◌, ◌+◌, ◌++◌, [], IfOk, is_some, length, sum_by};
 ghost use Rattle.std.specs.Option.{option_or};
 ghost use Rattle.net_text.specs.Limits.{text_limit};
 ghost use Rattle.net_text.specs.Lines.{lines_of};
 ghost use Rattle.ios_config.specs.Rules.{opened_by, opens, passed, passed_by};
 ghost use Rattle.ios_config.specs.Reads.{effects, refusal_in};
-ghost use Rattle.ios_config.specs.Draft.{parts, parts_of};
-ghost use Rattle.ios_config.specs.Passed.{first_byte, mode_in, one_line, passed_at, under_after, passed_lines, line_count, Says, Adds, IsSurvey, Judges};
+ghost use Rattle.ios_config.specs.Draft.{parts};
+ghost use Rattle.ios_config.specs.Passed.{first_byte, mode_in, one_line, passed_at, add_passed, under_after, passed_lines, line_count, Says, IsNew, Adds, IsSurvey, Judges};
 
 use crate::commands::effect;
 use crate::draft::Draft;
@@ -15,6 +15,7 @@ use ios_lines::{Action, Change, Effect, Refusal, Section};
 use net_text::{Line, Span, lines};
 use net_types::{Duplicate, List, NoMemory, Text};
 use std::alloc::Global;
+use std::mem;
 
 /// Where a line that is passed over stands.
 #[derive(Clone, Copy, Debug, PartialEq, Eq)]
@@ -74,36 +75,54 @@ pub fn examine(alloc: Global, bytes: &[u8]) -> Result<Examination, NoMemory>
     ensures interfaces { IfOk result (λ e. IfOk e.reading (λ r. length r.config.interfaces < length bytes.now)) }
 {
     let lines = lines(alloc, bytes)?;
-    let survey = survey_lines(alloc, bytes, &lines)?;
+    let mut survey = Survey::new(alloc);
+    examine_lines(alloc, bytes, &lines, &mut survey)
+}
+
+/// What the lines are examined as, by a survey of no line.
+fn examine_lines(
+    alloc: Global,
+    bytes: &[u8],
+    lines: &[Line],
+    survey: &mut Survey,
+) -> Result<Examination, NoMemory>
+    requires size { length bytes.now ≤ text_limit }
+    requires lines { lines.now ≡ lines_of bytes.now }
+    requires new { IsNew survey.old }
+    ensures passed { IfOk result (λ e. e.passed.items ≡ passed_lines bytes.now) }
+    ensures reading { IfOk result (λ e. Says bytes.now e.reading) }
+{
+    survey_lines(alloc, bytes, lines, survey)?;
     judged(alloc, survey)
 }
 
-/// What the lines make, all of them.
-fn survey_lines(alloc: Global, bytes: &[u8], lines: &[Line]) -> Result<Survey, NoMemory>
+/// Adds what the lines make, all of them, to a survey of no line.
+fn survey_lines(
+    alloc: Global,
+    bytes: &[u8],
+    lines: &[Line],
+    survey: &mut Survey,
+) -> Result<(), NoMemory>
     requires size { length bytes.now ≤ text_limit }
     requires lines { lines.now ≡ lines_of bytes.now }
-    ensures { IfOk result (IsSurvey bytes.now) }
+    requires new { IsNew survey.old }
+    ensures { IfOk result (λ _. IsSurvey bytes.now survey.new) }
 {
-    let mut survey = Survey::new(alloc);
     for line in lines {
         let effect = effect(alloc, bytes, &survey.draft, line)?;
         survey.add(alloc, line, effect)?;
     }
-    Ok(survey)
+    Ok(())
 }
 
-/// What is judged after the last line, with the passed lines.
-fn judged(alloc: Global, survey: Survey) -> Result<Examination, NoMemory>
-    ensures passed { IfOk result (λ e. e.passed ≡ survey.passed) }
-    ensures reading { IfOk result (λ e. Judges survey.refusal (parts survey.draft) e.reading) }
+/// What is judged after the last line, with the passed lines. They leave the survey.
+fn judged(alloc: Global, survey: &mut Survey) -> Result<Examination, NoMemory>
+    ensures passed { IfOk result (λ e. e.passed ≡ survey.old.passed) }
+    ensures reading { IfOk result (λ e. Judges survey.old.refusal (parts survey.old.draft) e.reading) }
 {
-    let Survey {
-        draft,
-        passed,
-        under: _,
-        refusal,
-    } = survey;
-    let reading = judge(alloc, refusal, draft)?;
+    let refusal = survey.refusal.take();
+    let reading = judge(alloc, refusal, &mut survey.draft)?;
+    let passed = mem::replace(&mut survey.passed, Vec::new(alloc));
     Ok(Examination { passed, reading })
 }
 
@@ -111,9 +130,9 @@ fn judged(alloc: Global, survey: Survey) -> Result<Examination, NoMemory>
 fn judge(
     alloc: Global,
     refusal: Option<Refusal>,
-    draft: Draft,
+    draft: &mut Draft,
 ) -> Result<Result<Reading, Refusal>, NoMemory>
-    ensures { IfOk result (Judges refusal (parts draft)) }
+    ensures { IfOk result (Judges refusal (parts draft.old)) }
 {
     if let Some(refusal) = refusal {
         return Ok(Err(refusal));
@@ -128,10 +147,7 @@ fn judge(
 impl Survey {
     /// No line yet.
     fn new(alloc: Global) -> Survey
-        ensures parts { parts result.draft ≡ parts_of [] }
-        ensures passed { result.passed.items ≡ [] }
-        ensures under { result.under ≡ None }
-        ensures refusal { result.refusal ≡ None }
+        ensures { IsNew result }
     {
         Survey {
             draft: Draft::new(alloc),
@@ -148,12 +164,22 @@ impl Survey {
         requires list_lengths { length self.old.draft.lists.items ≡ length self.old.draft.list_names }
         ensures { IfOk result (λ _. Adds self.old self.new line.now effect) }
     {
-        if let Some(passed) = passed_at(&self.draft.section, self.under, line, &effect) {
+        self.note_line(alloc, line, &effect)?;
+        self.draft.apply(alloc, effect)
+    }
+
+    /// Keeps what is passed over at a line of this effect, and the first refusal.
+    fn note_line(&mut self, alloc: Global, line: &Line, effect: &Effect) -> Result<(), NoMemory>
+        ensures passed { IfOk result (λ _. self.new.passed.items ≡ self.old.passed.items ++ add_passed (passed_at self.old.draft.section self.old.under line.now effect.now) []) }
+        ensures under { IfOk result (λ _. self.new.under ≡ under_after self.old.under line.now effect.now) }
+        ensures refusal { IfOk result (λ _. self.new.refusal ≡ option_or self.old.refusal (refusal_in effect.now)) }
+        ensures draft { self.new.draft ≡ self.old.draft }
+    {
+        if let Some(passed) = passed_at(&self.draft.section, self.under, line, effect) {
             self.passed.push(passed)?;
         }
-        self.under = under_after(self.under, line, &effect);
-        self.note(alloc, &effect)?;
-        self.draft.apply(alloc, effect)
+        self.under = under_after(self.under, line, effect);
+        self.note(alloc, effect)
     }
 
     /// Keeps the first refusal.

@@ -1,19 +1,22 @@
 //! Reading a configuration.
-ghost use Rattle.std.specs.Prelude.{◌≡◌, ◌≤◌, ◌<◌, IfOk, length, map};
+ghost use Rattle.std.specs.Prelude.{◌≡◌, ◌≤◌, ◌<◌, [], IfOk, Some, length, map};
+ghost use Rattle.std.specs.Result.{result_map_both};
 ghost use Rattle.net_text.specs.Limits.{text_limit};
 ghost use Rattle.net_text.specs.Lines.{lines_of};
 ghost use Rattle.ios_config.specs.Rules.{interface_of, list_of};
 ghost use Rattle.ios_config.specs.Reads.{effects};
-ghost use Rattle.ios_config.specs.Draft.{parts};
-ghost use Rattle.ios_config.specs.Answers.{Answers, Drafted, Finished};
+ghost use Rattle.ios_config.specs.Draft.{parts, parts_of};
+ghost use Rattle.ios_config.specs.Answers.{Answers, Drafted, Finished, config_by};
 
 use crate::commands::effect;
 use crate::draft::Draft;
 use crate::late::{late, no_hostname};
+use ios_commands::NatBook;
 use ios_lines::{Effect, Refusal, WrittenAddress, WrittenInterface, WrittenList, WrittenRoute};
 use net_text::{Line, lines};
-use net_types::{AccessList, Config, Interface, List, NoMemory, Route, Subnet};
+use net_types::{AccessList, Config, Interface, List, NoMemory, Route, Subnet, Text};
 use std::alloc::Global;
+use std::mem;
 
 /// A configuration, and how many lines were passed over.
 #[derive(Drop)]
@@ -61,60 +64,85 @@ fn read_text(alloc: Global, bytes: &[u8]) -> Result<Reading, ConfigFail>
     ensures { Answers bytes.now result }
 {
     let lines = lines(alloc, bytes)?;
-    let draft = read_lines(alloc, bytes, &lines)?;
+    let mut draft = Draft::new(alloc);
+    read_lines(alloc, bytes, &lines, &mut draft)
+}
+
+/// What the lines are read as, by a draft of no line.
+fn read_lines(
+    alloc: Global,
+    bytes: &[u8],
+    lines: &[Line],
+    draft: &mut Draft,
+) -> Result<Reading, ConfigFail>
+    requires size { length bytes.now ≤ text_limit }
+    requires lines { lines.now ≡ lines_of bytes.now }
+    requires draft { parts draft.old ≡ parts_of [] }
+    ensures { Answers bytes.now result }
+{
+    add_lines(alloc, bytes, lines, draft)?;
     finish(alloc, draft)
 }
 
-/// What the lines make, or the first refusal.
-fn read_lines(alloc: Global, bytes: &[u8], lines: &[Line]) -> Result<Draft, ConfigFail>
+/// Adds what the lines make to a draft of no line, up to the first refusal.
+fn add_lines(
+    alloc: Global,
+    bytes: &[u8],
+    lines: &[Line],
+    draft: &mut Draft,
+) -> Result<(), ConfigFail>
     requires size { length bytes.now ≤ text_limit }
     requires lines { lines.now ≡ lines_of bytes.now }
-    ensures { Drafted (effects bytes.now) result }
+    requires draft { parts draft.old ≡ parts_of [] }
+    ensures { Drafted (effects bytes.now) (result_map_both (λ _. draft.new) (λ fail. fail) result) }
 {
-    let mut draft = Draft::new(alloc);
     for line in lines {
-        let effect = effect(alloc, bytes, &draft, line)?;
+        let effect = effect(alloc, bytes, draft, line)?;
         if let Effect::Refused { refusal } = effect {
             return Err(ConfigFail::Refused { refusal });
         }
         draft.apply(alloc, effect)?;
     }
-    Ok(draft)
+    Ok(())
 }
 
-/// The configuration after the last line, or what is refused then.
-pub(crate) fn finish(alloc: Global, draft: Draft) -> Result<Reading, ConfigFail>
-    ensures { Finished (parts draft) result }
+/// The configuration after the last line, or what is refused then. Its parts leave the draft.
+pub(crate) fn finish(alloc: Global, draft: &mut Draft) -> Result<Reading, ConfigFail>
+    ensures { Finished (parts draft.old) result }
 {
-    let Draft {
-        hostname,
-        names,
-        interfaces,
-        routes,
-        nat,
-        list_names: _,
-        lists,
-        section: _,
-        covered: _,
-        passed,
-    } = draft;
-    let Some(hostname) = hostname else {
+    let Some(hostname) = draft.hostname.take() else {
         return Err(ConfigFail::Refused {
             refusal: no_hostname(alloc),
         });
     };
-    if let Some(refusal) = late(alloc, &names, &interfaces, &routes)? {
+    if let Some(refusal) = late(alloc, &draft.names, &draft.interfaces, &draft.routes)? {
         return Err(ConfigFail::Refused { refusal });
     }
+    let config = finish_config(alloc, hostname, draft)?;
     Ok(Reading {
-        config: Config {
-            hostname,
-            interfaces: List::new(finish_interfaces(alloc, interfaces)?),
-            routes: List::new(finish_routes(alloc, routes)?),
-            lists: List::new(finish_lists(alloc, lists)?),
-            nat: List::new(nat.into_rules()),
-        },
-        passed,
+        config,
+        passed: draft.passed,
+    })
+}
+
+/// The configuration of this name, of the parts of a draft.
+fn finish_config(alloc: Global, hostname: Text, draft: &mut Draft) -> Result<Config, NoMemory>
+    ensures config { IfOk result (λ c. c ≡ config_by (record (parts draft.old) { hostname = Some hostname })) }
+    ensures passed { draft.new.passed ≡ draft.old.passed }
+{
+    let interfaces = mem::replace(&mut draft.interfaces, Vec::new(alloc));
+    let interfaces = finish_interfaces(alloc, interfaces)?;
+    let routes = mem::replace(&mut draft.routes, Vec::new(alloc));
+    let routes = finish_routes(alloc, routes)?;
+    let lists = mem::replace(&mut draft.lists, Vec::new(alloc));
+    let lists = finish_lists(alloc, lists)?;
+    let nat = mem::replace(&mut draft.nat, NatBook::new(alloc));
+    Ok(Config {
+        hostname,
+        interfaces: List::new(interfaces),
+        routes: List::new(routes),
+        lists: List::new(lists),
+        nat: List::new(nat.into_rules()),
     })
 }
 

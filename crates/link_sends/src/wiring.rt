@@ -24,12 +24,22 @@ use std::alloc::Global;
 use std::marker::Model;
 
 /// The links of a world, indexed: it is made in near linear time, and a packet is sent without a scan.
-#[derive(Drop)]
 pub struct Wiring<'a> {
     index: DeviceIndex<'a>,
     numbers: IndexMap<Place, usize>,
     wires: Vec<Wire>,
     diagrams: Diagrams,
+}
+
+impl<'a> Drop for Wiring<'a> {
+    fn drop(self) {
+        let Wiring {
+            index: _,
+            numbers: _,
+            wires: _,
+            diagrams: _,
+        } = self;
+    }
 }
 
 impl<'a> Model for Wiring<'a> {

@@ -4,7 +4,7 @@ ghost use Rattle.std.specs.Prelude.{◌≡◌, ℕ, All, IfOk, IfSome, List, Non
 ghost use Rattle.net_types.specs.declared.network.NetDevice.{NetDevice};
 ghost use Rattle.net_forms.specs.Forms.{TablesGrow};
 ghost use Rattle.net_forms.specs.Known.{AreKnownFates};
-ghost use Rattle.list_tables.specs.Made.{IsFateShare};
+ghost use Rattle.list_tables.specs.Made.{IsFateShare, IsMadeFates};
 
 use crate::wanted::{WantedFates, makers, wanted_fates};
 use device_fates::add_device;
@@ -46,8 +46,22 @@ pub(crate) fn fates_by_workers<R: Threads + Sync, G>(
         return Ok(Vec::new(alloc));
     }
     let shares = fate_shares(by, alloc, devices, &wanted)?;
+    fates_of_shares(alloc, devices, &shares, tables)
+}
+
+// What they made, taken over.
+fn fates_of_shares(
+    alloc: Global,
+    devices: &[NetDevice],
+    shares: &[Option<FateShare>],
+    tables: &mut Tables,
+) -> Result<Vec<Option<u32>>, NoMemory>
+    requires { All (λ share. IfSome share (IsFateShare devices.now)) shares.now }
+    ensures fates { IfOk result (λ r. AreKnownFates tables.new.diagrams tables.new.fates devices.now r.items) }
+    ensures kept { TablesGrow tables.old tables.new }
+{
     let mut fates = no_fates(alloc, devices.len())?;
-    for share in &shares {
+    for share in shares {
         let Some(share) = share else {
             continue;
         };
@@ -96,6 +110,20 @@ fn made_share(
     ensures { IfOk result (IsFateShare devices.now) }
 {
     let mut tables = Tables::new(alloc)?;
+    let made = made_in(alloc, &mut tables, devices, wanted, worker)?;
+    Ok(FateShare { tables, made })
+}
+
+// The functions of this worker, in these tables.
+fn made_in(
+    alloc: Global,
+    tables: &mut Tables,
+    devices: &[NetDevice],
+    wanted: &[WantedFates],
+    worker: usize,
+) -> Result<Vec<MadeFates>, NoMemory>
+    ensures { IfOk result (λ made. All (IsMadeFates tables.new devices.now) made.items) }
+{
     let mut made = Vec::new(alloc);
     for one in wanted {
         if one.worker != worker {
@@ -115,7 +143,7 @@ fn made_share(
             function,
         })?;
     }
-    Ok(FateShare { tables, made })
+    Ok(made)
 }
 
 // What one worker more has made, with the numbers that its fates have here.

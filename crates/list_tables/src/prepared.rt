@@ -1,7 +1,8 @@
 //! Networks that are compiled once the workers have made the functions of their long lists and of their routes.
 
-ghost use Rattle.std.specs.Prelude.{◌≡◌, IfOk};
+ghost use Rattle.std.specs.Prelude.{◌≡◌, IfOk, OnOk};
 ghost use Rattle.net_view.specs.Borrowed.{world_of};
+ghost use Rattle.net_forms.specs.Forms.{TablesGrow};
 ghost use Rattle.net_forms.specs.Known.{AreKnownFates, AreKnownLists};
 ghost use Rattle.net_forms.specs.Networks.{IsFormedNetwork};
 ghost use Rattle.net_forms.specs.Pairs.{worlds_of};
@@ -13,7 +14,7 @@ use crate::known::{KnownLists, known_of, none_known};
 use crate::lists::BothDevices;
 use crate::shares::made_by_workers;
 use crate::wanted::{have_one_worker, known_devices, wanted_lists};
-use net_forms::{Beforehand, FormedNetwork, Networks, Prepared};
+use net_forms::{Beforehand, FormedNetwork, Networks, Prepared, Tables};
 use net_types::NoMemory;
 use net_view::WorldRef;
 use std::alloc::Global;
@@ -28,6 +29,13 @@ pub(crate) struct KnownBoth {
     pub(crate) old_fates: Vec<Option<u32>>,
     /// The same of the new network's.
     pub(crate) new_fates: Vec<Option<u32>>,
+}
+
+/// The functions of what the devices of two networks do with destinations, by their positions.
+#[derive(Drop)]
+struct BothFates {
+    old: Vec<Option<u32>>,
+    new: Vec<Option<u32>>,
 }
 
 /// Compiles two networks, as `Prepared::of` does, whose long access lists and routes are prepared by the workers.
@@ -79,15 +87,42 @@ fn known_by_workers<R: Threads + Sync, G>(
         return Ok(nothing);
     }
     let known = known_devices(by, alloc, both)?;
-    let mut lists = lists_by_workers(by, alloc, both, &known)?;
-    let tables = &mut lists.tables;
-    let old_fates = fates_by_workers(by, alloc, both.old, &[], tables)?;
-    let new_fates = fates_by_workers(by, alloc, both.new, &known, tables)?;
+    known_beside(by, alloc, both, &known)
+}
+
+// The same where these devices of the new network are equal to one of the old.
+fn known_beside<R: Threads + Sync, G>(
+    by: &Workers<R, G>,
+    alloc: Global,
+    both: BothDevices,
+    known: &[bool],
+) -> Result<KnownBoth, NoMemory>
+    ensures { IfOk result (AreKnownBoth both.entry) }
+{
+    let mut lists = lists_by_workers(by, alloc, both, known)?;
+    let fates = fates_of_both(by, alloc, both, known, &mut lists.tables)?;
     Ok(KnownBoth {
         lists,
-        old_fates,
-        new_fates,
+        old_fates: fates.old,
+        new_fates: fates.new,
     })
+}
+
+// The functions of what the devices of both networks do with destinations.
+fn fates_of_both<R: Threads + Sync, G>(
+    by: &Workers<R, G>,
+    alloc: Global,
+    both: BothDevices,
+    known: &[bool],
+    tables: &mut Tables,
+) -> Result<BothFates, NoMemory>
+    ensures old { IfOk result (λ r. AreKnownFates tables.new.diagrams tables.new.fates both.entry.old.now r.old.items) }
+    ensures new { IfOk result (λ r. AreKnownFates tables.new.diagrams tables.new.fates both.entry.new.now r.new.items) }
+    ensures kept { OnOk result (TablesGrow tables.old tables.new) }
+{
+    let old = fates_by_workers(by, alloc, both.old, &[], tables)?;
+    let new = fates_by_workers(by, alloc, both.new, known, tables)?;
+    Ok(BothFates { old, new })
 }
 
 fn nothing_made(alloc: Global) -> Result<KnownBoth, NoMemory>
@@ -118,8 +153,7 @@ fn lists_by_workers<R: Threads + Sync, G>(
         return Ok(none);
     }
     let made = made_by_workers(by, alloc, both, &wanted)?;
-    let lists = known_of(alloc, both, &made)?;
-    Ok(lists)
+    known_of(alloc, both, &made)
 }
 
 fn prepared_with<'a>(

@@ -1,7 +1,7 @@
 //! The lists that each worker makes.
 
 ghost use Rattle.std.specs.Prelude.{All, IfOk, IfSome};
-ghost use Rattle.list_tables.specs.Made.{IsMadeShare};
+ghost use Rattle.list_tables.specs.Made.{IsMadeList, IsMadeShare};
 
 use crate::lists::{BothDevices, ListPosition, list_at};
 use crate::wanted::WantedList;
@@ -68,16 +68,30 @@ fn made_share(
     ensures { IfOk result (IsMadeShare both.entry) }
 {
     let mut table = Diagrams::new(alloc)?;
+    let lists = made_in(alloc, &mut table, both, wanted, worker)?;
+    Ok(MadeShare { table, lists })
+}
+
+// The lists of this worker, in this table.
+fn made_in(
+    alloc: Global,
+    table: &mut Diagrams,
+    both: BothDevices,
+    wanted: &[WantedList],
+    worker: usize,
+) -> Result<Vec<MadeList>, NoMemory>
+    ensures { IfOk result (λ lists. All (IsMadeList table.new both.entry) lists.items) }
+{
     let mut lists = Vec::new(alloc);
     for list in wanted {
         if list.worker != worker {
             continue;
         }
-        let function = add_list(alloc, &mut table, list_at(both, list.at))?;
+        let function = add_list(alloc, table, list_at(both, list.at))?;
         lists.push(MadeList {
             at: list.at,
             function,
         })?;
     }
-    Ok(MadeShare { table, lists })
+    Ok(lists)
 }

@@ -45,15 +45,30 @@ pub(crate) fn known_devices<R: Threads + Sync, G>(
     alloc: Global,
     both: BothDevices,
 ) -> Result<Vec<bool>, NoMemory> {
+    let positions = positions_of(alloc, both.old)?;
+    known_by_positions(by, alloc, both, &positions)
+}
+
+// The positions of the devices, by their names.
+fn positions_of(alloc: Global, devices: &[NetDevice]) -> Result<IndexMap<u32, usize>, NoMemory> {
     let mut positions = IndexMap::new(alloc);
-    for i in 0..both.old.len() {
-        positions.insert(both.old[i].name, i)?;
+    for i in 0..devices.len() {
+        positions.insert(devices[i].name, i)?;
     }
+    Ok(positions)
+}
+
+// The same, where the devices of the old network have these positions.
+fn known_by_positions<R: Threads + Sync, G>(
+    by: &Workers<R, G>,
+    alloc: Global,
+    both: BothDevices,
+    positions: &IndexMap<u32, usize>,
+) -> Result<Vec<bool>, NoMemory> {
     let mut known = Vec::with_capacity(alloc, both.new.len())?;
     for _ in 0..both.new.len() {
         known.push(false)?;
     }
-    let positions = &positions;
     let compare = move |i: usize, known: &mut bool| { *known = is_known(both, positions, i) };
     for_each_mut(by.rt, &mut known, comparers(by, both.new), &compare);
     Ok(known)

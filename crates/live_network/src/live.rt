@@ -21,7 +21,6 @@ use set_walk::Net;
 use std::alloc::Global;
 
 /// What is kept of a network that changes device by device.
-#[derive(Drop)]
 pub struct LiveWays {
     pub tables: Tables,
     /// All headers, a set of the table.
@@ -30,6 +29,17 @@ pub struct LiveWays {
     pub ways: NetworkWays,
     /// How many nodes and lists of ways there were when it was made.
     pub(crate) made: usize,
+}
+
+impl Drop for LiveWays {
+    fn drop(self) {
+        let LiveWays {
+            tables: _,
+            scope: _,
+            ways: _,
+            made: _,
+        } = self;
+    }
 }
 
 /// How many nodes a table has, and how many lists of ways there are.

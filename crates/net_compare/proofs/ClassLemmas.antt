@@ -1,13 +1,11 @@
 -- From labels with their classes to the labels that stand at numbers.
-use Rattle.std.proofs.Common.{◌≡◌, ℕ, zero, suc, List, [], ◌∷◌, Option, Some, None, slice_get, refl, ap, subst}
-use Rattle.std.specs.Prelude.{option_and_then, option_map}
-use Rattle.std.specs.List.{AllZip}
+use Rattle.std.proofs.Common.{◌≡◌, ℕ, zero, suc, List, [], ◌∷◌, Option, Some, None, refl, ap, subst}
+use Rattle.std.specs.Prelude.{option_map}
 use Rattle.class_store.specs.declared.class.Class.{Class}
 use Rattle.class_store.specs.Classes.{IsClass, label_of}
 use Rattle.net_types.specs.declared.label.Outcome.{Outcome}
 use Rattle.net_types.specs.Order.{in_order, outcome_cmp}
 use Rattle.set_walk.specs.declared.numbers.OutcomeList.{OutcomeList}
-use Rattle.set_walk.specs.Numbers.{outcomes_at}
 use Rattle.net_compare.specs.declared.classes.Classed.{Classed}
 use Rattle.net_compare.specs.Classes.{AreClassed, AreOfStore, IsClassOf, IsClassedOf, IsOfStore, classed_at}
 use Rattle.net_compare.specs.Rows.{HasOutcomes, label_at}

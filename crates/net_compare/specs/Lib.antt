@@ -3,3 +3,4 @@ pub mod Slots
 pub mod Walkable
 pub mod Rows
 pub mod Classes
+pub mod Differing

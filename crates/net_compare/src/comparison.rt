@@ -86,8 +86,7 @@ pub fn compare_worlds<G: Gate + Sync, R: Threads + Wait + Sync>(
         return Err(NoMemory);
     }
     let prepared = prepared_by_workers(by, alloc, networks)?;
-    let sections = sections_prepared(by, alloc, prepared.into_parts(), ingress, ttl)?;
-    Ok(sections)
+    sections_prepared(by, alloc, prepared.into_parts(), ingress, ttl)
 }
 
 // The sections of two compiled networks.
@@ -109,27 +108,40 @@ fn sections_prepared<G: Gate + Sync, R: Threads + Wait + Sync>(
         new,
         like,
     } = parts;
-    let Tables {
-        mut diagrams,
-        fates,
-    } = tables;
+    let Tables { diagrams, fates } = tables;
     let forms = BothForms {
         fates: &fates,
         old: &old,
         new: &new,
         like: &like,
     };
-    let scoped = scoped_ways(alloc, forms, &mut diagrams)?;
+    sections_formed(by, alloc, diagrams, forms, ingress, ttl)
+}
+
+// The sections of two networks with these forms in the table.
+fn sections_formed<G: Gate + Sync, R: Threads + Wait + Sync>(
+    by: &Workers<R, G>,
+    alloc: Global,
+    mut table: Diagrams,
+    forms: BothForms,
+    ingress: &[Place],
+    ttl: u8,
+) -> Result<Vec<Section>, NoMemory>
+    requires ttl { 1 ≤ ttl }
+    requires few { length ingress.now < 2 ^ 32 }
+    requires forms { AreBothForms table forms }
+    ensures { IfOk result (λ sections. IsReport ingress.now (world_of forms.entry.old.now.world) (world_of forms.entry.new.now.world) ttl sections.items) }
+{
+    let scoped = scoped_ways(alloc, forms, &mut table)?;
     let networks = Networks {
-        old: old.world,
-        new: new.world,
+        old: forms.old.world,
+        new: forms.new.world,
     };
     let walked = Walked {
         networks,
         scoped: &scoped,
     };
-    let sections = sections_by(by, alloc, diagrams, walked, ingress, ttl)?;
-    Ok(sections)
+    sections_by(by, alloc, table, walked, ingress, ttl)
 }
 
 /// The scope of the change from one compiled network to the other, and the ways of all places for its headers.
@@ -197,8 +209,7 @@ fn sections_by<G: Gate + Sync, R: Threads + Wait + Sync>(
         ingress,
         ttl,
     };
-    let sections = sections_at(by, alloc, table, &compared)?;
-    Ok(sections)
+    sections_at(by, alloc, table, &compared)
 }
 
 // The sections of the ingresses, in their order. What each header is given in each slot is named for it by a type.
@@ -257,8 +268,7 @@ fn rows_alone<K: Pairing + Base + Send + Sync, G: Gate + Sync, R: Threads + Wait
     ensures { IfOk result (λ all. AreRowsOfSlots K.gives (length slots.now) all.items) }
 {
     let twins: Twins<K> = Twins::of(alloc, table)?;
-    let all = rows_in(by, alloc, None, &twins, slots)?;
-    Ok(all)
+    rows_in(by, alloc, None, &twins, slots)
 }
 
 fn rows_shared<K: Pairing + Base + Send + Sync, G: Gate + Sync, R: Threads + Wait + Sync>(
@@ -271,8 +281,7 @@ fn rows_shared<K: Pairing + Base + Send + Sync, G: Gate + Sync, R: Threads + Wai
     ensures { IfOk result (λ all. AreRowsOfSlots K.gives (length slots.now) all.items) }
 {
     let twins: Twins<K> = Twins::new(alloc);
-    let all = rows_in(by, alloc, Some(table), &twins, slots)?;
-    Ok(all)
+    rows_in(by, alloc, Some(table), &twins, slots)
 }
 
 // By workers who walk in these twins of the base.

@@ -9,6 +9,7 @@ ghost use Rattle.pair_rows.specs.Pairs.{Pair, IsNumberOf};
 ghost use Rattle.pair_rows.specs.Functions.{IsFunctionOf};
 ghost use Rattle.net_compare.specs.Rows.{HaveOutcomes, AreTold, labels_at};
 ghost use Rattle.net_compare.specs.Classes.{AreOfStore, IsClassOf, IsOfStore, differing, differing_at};
+ghost use Rattle.net_compare.specs.Differing.{differing_by};
 
 use crate::classes::{Classed, Classes, classed_at};
 use cube_diagram::{Diagrams, ValuePair};
@@ -34,22 +35,71 @@ pub(crate) fn pairs_given(
     ensures given { IfOk result (IsFunctionOf (labels_at table.old old.now new.now)) }
     ensures kept { Keeps table.old table.new }
 {
-    let mut numbers = IndexSet::new(alloc);
-    let mut pairs = LabelPairs::new(alloc);
-    let both = table.paired(alloc, old.function, new.function, &mut numbers)?;
     let before = classes.classed_all(alloc, &old.labels)?;
     let after = classes.classed_all(alloc, &new.labels)?;
-    let told = pairs_of(
-        alloc,
-        classes,
-        &before,
-        &after,
-        numbers.as_slice(),
-        &mut pairs,
-    )?;
-    let function = table.retold(alloc, both, &told)?;
+    let old = Numbered {
+        function: old.function,
+        labels: &before,
+    };
+    let new = Numbered {
+        function: new.function,
+        labels: &after,
+    };
+    let given = pairs_classed(alloc, table, classes, old, new)?;
+    Ok(given)
+}
+
+// A function that numbers the labels of headers, with what stands at each number.
+#[derive(Clone, Copy)]
+struct Numbered<'a> {
+    function: u32,
+    labels: &'a [Option<Classed>],
+}
+
+// The same, once the labels have their classes.
+fn pairs_classed(
+    alloc: Global,
+    table: &mut Diagrams,
+    classes: &Classes,
+    old: Numbered,
+    new: Numbered,
+) -> Result<PairFunction, NoMemory>
+    requires old { old.function < count_of table.old }
+    requires new { new.function < count_of table.old }
+    requires of_old { AreOfStore classes.now.store old.labels.now }
+    requires of_new { AreOfStore classes.now.store new.labels.now }
+    ensures given { IfOk result (IsFunctionOf (differing_by table.old old.entry new.entry)) }
+    ensures kept { Keeps table.old table.new }
+{
+    let mut pairs = LabelPairs::new(alloc);
+    let function = pair_numbers(alloc, table, classes, old, new, &mut pairs)?;
     let given = in_own_table(alloc, table, function, pairs)?;
     Ok(given)
+}
+
+// The function that gives a header the number of its pair of labels, where these differ. The pairs that it has are added.
+fn pair_numbers(
+    alloc: Global,
+    table: &mut Diagrams,
+    classes: &Classes,
+    old: Numbered,
+    new: Numbered,
+    pairs: &mut LabelPairs,
+) -> Result<u32, NoMemory>
+    requires old { old.function < count_of table.old }
+    requires new { new.function < count_of table.old }
+    requires of_old { AreOfStore classes.now.store old.labels.now }
+    requires of_new { AreOfStore classes.now.store new.labels.now }
+    ensures below { IfOk result (λ f. f < count_of table.new) }
+    ensures exact { IfOk result (λ f. (h : ℕ) → IsNumberOf pairs.new (value_at table.new f h) (differing_by table.old old.entry new.entry h)) }
+    ensures kept { Keeps table.old table.new }
+{
+    let mut numbers = IndexSet::new(alloc);
+    let both = table.paired(alloc, old.function, new.function, &mut numbers)?;
+    let two = numbers.as_slice();
+    let told = pairs_of(alloc, classes, old.labels, new.labels, two, pairs)?;
+    let function = table.retold(alloc, both, &told)?;
+    Ok(function)
 }
 
 /// The function in a table that has nothing else.
@@ -64,13 +114,27 @@ pub(crate) fn in_own_table(
     ensures exact { IfOk result (λ f. (h : ℕ) → value_at f.table f.function h ≡ value_at source.now function h) }
 {
     let mut table = Diagrams::new(alloc)?;
-    let mut known = IndexMap::new(alloc);
-    let function = table.copy_from(source, function, &mut known)?;
+    let function = copied(alloc, source, function, &mut table)?;
     Ok(PairFunction {
         table,
         function,
         pairs,
     })
+}
+
+// The number that the function has in another table, where it is added.
+fn copied(
+    alloc: Global,
+    source: &Diagrams,
+    function: u32,
+    table: &mut Diagrams,
+) -> Result<u32, NoMemory>
+    requires { function < count_of source.now }
+    ensures below { IfOk result (λ f. f < count_of table.new) }
+    ensures exact { IfOk result (λ f. (h : ℕ) → value_at table.new f h ≡ value_at source.now function h) }
+{
+    let mut known = IndexMap::new(alloc);
+    table.copy_from(source, function, &mut known)
 }
 
 /// The function that gives no header a pair.

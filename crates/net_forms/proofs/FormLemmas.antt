@@ -14,6 +14,9 @@ use Rattle.nat_static.specs.Rules.{rule_from_outside, rule_from_inside, outer_fr
 use Rattle.net_types.specs.declared.config.AccessList.{AccessList}
 use Rattle.net_types.specs.declared.config.Config.{Config}
 use Rattle.net_types.specs.declared.config.Interface.{Interface}
+use Rattle.net_types.specs.declared.config.NatRule.{NatRule}
+use Rattle.cube_alg.specs.declared.cut.Piece.{Piece}
+use Rattle.cube_alg.specs.Pieces.{value_of}
 use Rattle.net_types.specs.declared.network.NetDevice.{NetDevice}
 use Rattle.net_types.specs.Routes.{same_text}
 use Rattle.net_types.specs.World.{Seat}
@@ -25,12 +28,14 @@ use Rattle.net_forms.specs.declared.forms.Beforehand.{Beforehand}
 use Rattle.net_forms.specs.declared.forms.DeviceForm.{DeviceForm}
 use Rattle.net_forms.specs.declared.forms.DeviceLists.{DeviceLists}
 use Rattle.net_forms.specs.declared.forms.KnownList.{KnownList}
+use Rattle.net_forms.specs.declared.forms.RuleForms.{RuleForms}
 use Rattle.net_forms.specs.declared.forms.SeatForm.{SeatForm}
 use Rattle.net_forms.specs.declared.forms.Tables.{Tables}
 use Rattle.net_forms.specs.Along.{AreAlong}
 use Rattle.net_forms.specs.Forms.{IsList, IsKnown, IsSeatForm, AreSeatForms, IsDeviceForm, IsFormOfSeat, TablesGrow, list_in}
 use Rattle.net_forms.specs.Known.{AreKnownBefore, AreKnownFates, AreKnownLists, known_at}
 use Rattle.net_forms.specs.declared.forms.NetworkForm.{NetworkForm}
+use Rattle.net_forms.specs.Rules.{AreRuleForms, TellsRule}
 use Rattle.net_forms.specs.Networks.{AreDevices, IsCopy, IsFormIn, IsNetworkForm}
 use Rattle.net_forms.proofs.FindLemmas.{at_position, found, not_found, there}
 
@@ -235,29 +240,37 @@ list_absent lists (Some m) e = not_found (λ l. same_text l.name m) lists e
 
 -- ---- a device, as its functions are added one after the other
 
--- a function that was added, and tells each header the rule
-pub record TellsRule (fs : Functions) (f : ℕ) (rule : Header → Option ℕ) : Type 0 where
-  pub below : f < count_of fs
-  pub exact : (h : Header) → IsHeader h → value_at fs f (number h) ≡ rule h
-
 tells_later : (a b : Functions) (f : ℕ) (rule : Header → Option ℕ) → Keeps a b → TellsRule a f rule → TellsRule b f rule
 tells_later a b f rule k t =
     let n = k.count in
     let l = t.below in
     record { below = omega (arith, n, l); exact = λ h v. k.value f t.below (number h) ∙ t.exact h v }
 
+-- the tables as each of the four functions is added
+pub rules_made : (b c d e : Functions) (nat : List NatRule) (r : RuleForms) → Keeps b c → Keeps c d → Keeps d e → TellsRule b r.outside (rule_from_outside nat) → TellsRule c r.outer_outside (outer_from_outside nat) → TellsRule d r.inside (rule_from_inside nat) → TellsRule e r.outer_inside (outer_from_inside nat) → AreRuleForms e nat r
+rules_made b c d e nat r bc cd de tb tc td te =
+    let ce = keeps_then c d e cd de in
+    let be = keeps_then b c e bc ce in
+    record {
+      outside = tells_later b e r.outside (rule_from_outside nat) be tb;
+      outer_outside = tells_later c e r.outer_outside (outer_from_outside nat) ce tc;
+      inside = tells_later d e r.inside (rule_from_inside nat) de td;
+      outer_inside = te;
+    }
+
+-- a function of the first of some pieces tells the rule that these pieces are of
+pub tells_by : (fs : Functions) (f : ℕ) (pieces : List Piece) (rule : Header → Option ℕ) → f < count_of fs → ((h : ℕ) → value_at fs f h ≡ value_of pieces h) → ((h : Header) → IsHeader h → value_of pieces (number h) ≡ rule h) → TellsRule fs f rule
+tells_by fs f pieces rule b e r = record { below = b; exact = λ h v. e (number h) ∙ r h v }
+
 module _ (x : NetDevice) (f : DeviceForm) where
-  -- the tables after the lists, after each of the four functions of the rules, and after the fates
-  pub device_made : (a b c d e z : Functions) (fates : List Fate) → length x.config.interfaces ≤ length x.numbers → AreSeatForms a x.config x.config.interfaces f.seats.items → Keeps a b → Keeps b c → Keeps c d → Keeps d e → Keeps e z → TellsRule b f.outside (rule_from_outside x.config.nat) → TellsRule c f.outer_outside (outer_from_outside x.config.nat) → TellsRule d f.inside (rule_from_inside x.config.nat) → TellsRule e f.outer_inside (outer_from_inside x.config.nat) → f.fates < count_of z → ((h : Header) → IsHeader h → HasFate x.config fates (value_at z f.fates (number h)) h.dst) → IsDeviceForm z fates x f
-  device_made a b c d e z fates numbers seats ab bc cd de ez tb tc td te bf fate =
-      let dz = keeps_then d e z de ez in
-      let cz = keeps_then c d z cd dz in
-      let bz = keeps_then b c z bc cz in
-      let az = keeps_then a b z ab bz in
-      let outside = tells_later b z f.outside (rule_from_outside x.config.nat) bz tb in
-      let outer_outside = tells_later c z f.outer_outside (outer_from_outside x.config.nat) cz tc in
-      let inside = tells_later d z f.inside (rule_from_inside x.config.nat) dz td in
-      let outer_inside = tells_later e z f.outer_inside (outer_from_inside x.config.nat) ez te in
+  -- the tables after the lists, after the rules, and after the fates
+  pub device_made : (a e z : Functions) (fates : List Fate) → length x.config.interfaces ≤ length x.numbers → AreSeatForms a x.config x.config.interfaces f.seats.items → Keeps a e → Keeps e z → TellsRule e f.outside (rule_from_outside x.config.nat) → TellsRule e f.outer_outside (outer_from_outside x.config.nat) → TellsRule e f.inside (rule_from_inside x.config.nat) → TellsRule e f.outer_inside (outer_from_inside x.config.nat) → f.fates < count_of z → ((h : Header) → IsHeader h → HasFate x.config fates (value_at z f.fates (number h)) h.dst) → IsDeviceForm z fates x f
+  device_made a e z fates numbers seats ae ez to too ti toi bf fate =
+      let az = keeps_then a e z ae ez in
+      let outside = tells_later e z f.outside (rule_from_outside x.config.nat) ez to in
+      let outer_outside = tells_later e z f.outer_outside (outer_from_outside x.config.nat) ez too in
+      let inside = tells_later e z f.inside (rule_from_inside x.config.nat) ez ti in
+      let outer_inside = tells_later e z f.outer_inside (outer_from_inside x.config.nat) ez toi in
       record {
         numbers = numbers;
         seats = seats_kept a z x.config x.config.interfaces f.seats.items az seats;

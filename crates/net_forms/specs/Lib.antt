@@ -3,5 +3,6 @@ pub mod Forms
 pub mod Known
 pub mod Networks
 pub mod Pairs
+pub mod Rules
 pub mod Seats
 pub mod Worlds

@@ -1,10 +1,11 @@
 //! How a network is compiled: each device once, and each of its lists once. A device that another network has compiled
 //! already, equal in all, keeps the form that it has there.
 
-ghost use Rattle.std.specs.Prelude.{◌≡◌, ◌<◌, All, Contains, IfOk, IfSome, OnOk, Some, option_and_then, position, slice_get};
+ghost use Rattle.std.specs.Prelude.{◌≡◌, ◌<◌, ℕ, All, Contains, IfOk, IfSome, OnOk, Some, option_and_then, position, slice_get};
 ghost use Rattle.std.specs.Option.{option_copied};
 ghost use Rattle.hdr_bits.specs.declared.header.Header.{Header};
 ghost use Rattle.hdr_bits.specs.HeaderBits.{number, IsHeader};
+ghost use Rattle.cube_alg.specs.Pieces.{value_of};
 ghost use Rattle.cube_diagram.specs.Functions.{Keeps, count_of, value_at};
 ghost use Rattle.device_fates.specs.Fates.{HasFate, IsFateFunction};
 ghost use Rattle.net_types.specs.Moves.{list_named};
@@ -13,18 +14,21 @@ ghost use Rattle.net_types.specs.Routes.{same_text};
 ghost use Rattle.net_forms.specs.Forms.{AreSeatForms, IsDeviceForm, IsKnown, IsList, TablesGrow, list_in};
 ghost use Rattle.net_forms.specs.Known.{AreKnownBefore, AreKnownParts, known_at};
 ghost use Rattle.net_forms.specs.Networks.{AreDevices, IsCopy, IsFormIn, IsIndexed, IsNetworkForm};
+ghost use Rattle.net_forms.specs.Rules.{AreRuleForms};
 
 use crate::forms::{
-    Beforehand, DeviceForm, DeviceLists, KnownList, KnownParts, NetworkForm, SeatForm, Tables,
+    Beforehand, DeviceForm, DeviceLists, KnownList, KnownParts, NetworkForm, RuleForms, SeatForm,
+    Tables,
 };
 use crate::seat::device_named;
 use acl_match::add_list;
+use cube_alg::Piece;
 use cube_diagram::Diagrams;
 use device_equality::same_device;
 use device_fates::add_device;
 use link_sends::Wiring;
 use nat_static::{inside_pieces, outer_inside_pieces, outer_outside_pieces, outside_pieces};
-use net_types::{AccessList, Config, NetDevice, NoMemory, Text};
+use net_types::{AccessList, Config, NatRule, NetDevice, NoMemory, Text};
 use net_view::{WorldRef, same_text};
 use std::alloc::Global;
 
@@ -48,7 +52,6 @@ pub fn compile_network<'a>(
     ensures world { IfOk result (λ n. n.world ≡ world.entry) }
     ensures kept { OnOk result (TablesGrow tables.old tables.new) }
 {
-    let wiring = Wiring::of(alloc, world)?;
     let devices = compile_devices(
         alloc,
         tables,
@@ -56,6 +59,7 @@ pub fn compile_network<'a>(
         world.network.devices.as_slice(),
         before,
     )?;
+    let wiring = Wiring::of(alloc, world)?;
     Ok(NetworkForm {
         world,
         devices,
@@ -180,25 +184,47 @@ pub fn compile_device(
     ensures kept { TablesGrow tables.old tables.new }
 {
     let config = &device.config;
-    let rules = config.nat.as_slice();
     let seats = compile_seats(alloc, &mut tables.diagrams, config, parts.lists)?;
-    let pieces = outside_pieces(alloc, rules)?;
-    let outside = tables.diagrams.first_match(&pieces)?;
-    let pieces = outer_outside_pieces(alloc, rules)?;
-    let outer_outside = tables.diagrams.first_match(&pieces)?;
-    let pieces = inside_pieces(alloc, rules)?;
-    let inside = tables.diagrams.first_match(&pieces)?;
-    let pieces = outer_inside_pieces(alloc, rules)?;
-    let outer_inside = tables.diagrams.first_match(&pieces)?;
+    let rules = compile_rules(alloc, &mut tables.diagrams, config.nat.as_slice())?;
     let fates = add_fates(alloc, tables, config, parts.fates)?;
     Ok(DeviceForm {
         seats,
+        outside: rules.outside,
+        outer_outside: rules.outer_outside,
+        inside: rules.inside,
+        outer_inside: rules.outer_inside,
+        fates,
+    })
+}
+
+// The functions of a device's translation rules.
+fn compile_rules(
+    alloc: Global,
+    diagrams: &mut Diagrams,
+    rules: &[NatRule],
+) -> Result<RuleForms, NoMemory>
+    ensures rules { IfOk result (AreRuleForms diagrams.new rules.now) }
+    ensures kept { Keeps diagrams.old diagrams.new }
+{
+    let outside = add_pieces(diagrams, outside_pieces(alloc, rules)?)?;
+    let outer_outside = add_pieces(diagrams, outer_outside_pieces(alloc, rules)?)?;
+    let inside = add_pieces(diagrams, inside_pieces(alloc, rules)?)?;
+    let outer_inside = add_pieces(diagrams, outer_inside_pieces(alloc, rules)?)?;
+    Ok(RuleForms {
         outside,
         outer_outside,
         inside,
         outer_inside,
-        fates,
     })
+}
+
+// The function that gives a header the value of the first of these pieces that holds it. The pieces are done with then.
+fn add_pieces(diagrams: &mut Diagrams, pieces: Vec<Piece>) -> Result<u32, NoMemory>
+    ensures below { IfOk result (λ r. r < count_of diagrams.new) }
+    ensures exact { IfOk result (λ r. (h : ℕ) → value_at diagrams.new r h ≡ value_of pieces.items h) }
+    ensures kept { Keeps diagrams.old diagrams.new }
+{
+    diagrams.first_match(&pieces)
 }
 
 // The number of the function that gives each header the number of the fate of its destination.
@@ -230,12 +256,25 @@ fn compile_seats(
     ensures seats { IfOk result (λ r. AreSeatForms diagrams.new config.now config.now.interfaces r.items) }
     ensures kept { Keeps diagrams.old diagrams.new }
 {
-    let lists = config.lists.as_slice();
     let mut known = known.to_vec(alloc)?;
+    seats_with(alloc, diagrams, config, &mut known)
+}
+
+fn seats_with(
+    alloc: Global,
+    diagrams: &mut Diagrams,
+    config: &Config,
+    known: &mut Vec<KnownList>,
+) -> Result<Vec<SeatForm>, NoMemory>
+    requires { All (IsKnown diagrams.old config.now.lists) known.old.items }
+    ensures seats { IfOk result (λ r. AreSeatForms diagrams.new config.now config.now.interfaces r.items) }
+    ensures kept { Keeps diagrams.old diagrams.new }
+{
+    let lists = config.lists.as_slice();
     let mut seats = Vec::new(alloc);
     for interface in config.interfaces.as_slice() {
-        let input = list_function(alloc, diagrams, lists, &mut known, &interface.input)?;
-        let output = list_function(alloc, diagrams, lists, &mut known, &interface.output)?;
+        let input = list_function(alloc, diagrams, lists, known, &interface.input)?;
+        let output = list_function(alloc, diagrams, lists, known, &interface.output)?;
         seats.push(SeatForm { input, output })?;
     }
     Ok(seats)

@@ -70,6 +70,15 @@ pub struct KnownParts<'a> {
     pub fates: Option<u32>,
 }
 
+/// The functions of a device's translation rules, as its form has them.
+#[derive(Clone, Copy)]
+pub(crate) struct RuleForms {
+    pub(crate) outside: u32,
+    pub(crate) outer_outside: u32,
+    pub(crate) inside: u32,
+    pub(crate) outer_inside: u32,
+}
+
 /// The functions of a device.
 #[derive(Drop)]
 pub struct DeviceForm {
@@ -88,7 +97,6 @@ pub struct DeviceForm {
 }
 
 /// A network with the forms of its devices.
-#[derive(Drop)]
 pub struct NetworkForm<'a> {
     /// The network.
     pub world: WorldRef<'a>,
@@ -96,4 +104,14 @@ pub struct NetworkForm<'a> {
     pub devices: Vec<DeviceForm>,
     /// Its links.
     pub wiring: Wiring<'a>,
+}
+
+impl<'a> Drop for NetworkForm<'a> {
+    fn drop(self) {
+        let NetworkForm {
+            world: _,
+            devices: _,
+            wiring: _,
+        } = self;
+    }
 }

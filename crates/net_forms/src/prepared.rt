@@ -9,6 +9,7 @@ use device_fates::Fates;
 use indexmap::IndexSet;
 use like_devices::{has_name, like_devices};
 use net_types::{NoMemory, Place};
+use net_view::WorldRef;
 use std::alloc::Global;
 use std::marker::Model;
 
@@ -96,16 +97,12 @@ impl<'a> Prepared<'a> {
         requires new { AreKnownBefore tables.diagrams tables.fates networks.new.network.now.devices of_new }
         ensures { IfOk result (λ p. p ≡ worlds_of networks.entry) }
     {
-        let Networks { old, new } = networks;
-        let before = compile_network(alloc, &mut tables, old, None, of_old)?;
-        let known = Some(&before);
-        let after = compile_network(alloc, &mut tables, new, known, of_new)?;
-        let like = like_devices(alloc, old, new, &before.wiring, &after.wiring)?;
+        let forms = both_forms(alloc, &mut tables, networks, of_old, of_new)?;
         Ok(Prepared {
             tables,
-            old: before,
-            new: after,
-            like,
+            old: forms.old,
+            new: forms.new,
+            like: forms.like,
         })
     }
 
@@ -138,4 +135,66 @@ impl<'a> Prepared<'a> {
     {
         has_name(&self.like, name)
     }
+}
+
+// The forms of two networks in one table, with the names of devices that do the same in both.
+#[derive(Drop)]
+struct FormPair<'a> {
+    old: NetworkForm<'a>,
+    new: NetworkForm<'a>,
+    like: IndexSet<u32>,
+}
+
+// The form of the new network, with the names of devices that do the same in the old one.
+#[derive(Drop)]
+struct LaterForm<'a> {
+    form: NetworkForm<'a>,
+    like: IndexSet<u32>,
+}
+
+ghost use Rattle.std.specs.Prelude.{◌≡◌, IfOk, OnOk};
+ghost use Rattle.net_forms.specs.Forms.{TablesGrow};
+ghost use Rattle.net_forms.specs.Known.{AreKnownBefore};
+ghost use Rattle.net_forms.specs.Networks.{AreLike, ArePrepared, IsNetworkForm};
+
+fn both_forms<'a>(
+    alloc: Global,
+    tables: &mut Tables,
+    networks: Networks<'a>,
+    of_old: Beforehand,
+    of_new: Beforehand,
+) -> Result<FormPair<'a>, NoMemory>
+    requires old { AreKnownBefore tables.old.diagrams tables.old.fates networks.old.network.now.devices of_old }
+    requires new { AreKnownBefore tables.old.diagrams tables.old.fates networks.new.network.now.devices of_new }
+    ensures forms { IfOk result (λ f. ArePrepared tables.new f.old f.new f.like.keys) }
+    ensures old { IfOk result (λ f. f.old.world ≡ networks.entry.old) }
+    ensures new { IfOk result (λ f. f.new.world ≡ networks.entry.new) }
+{
+    let old = compile_network(alloc, tables, networks.old, None, of_old)?;
+    let later = later_form(alloc, tables, &old, networks.new, of_new)?;
+    Ok(FormPair {
+        old,
+        new: later.form,
+        like: later.like,
+    })
+}
+
+// The form of the new network, once the old one has its form in the same tables.
+fn later_form<'a>(
+    alloc: Global,
+    tables: &mut Tables,
+    old: &NetworkForm,
+    new: WorldRef<'a>,
+    before: Beforehand,
+) -> Result<LaterForm<'a>, NoMemory>
+    requires old { IsNetworkForm tables.old.diagrams tables.old.fates old.now }
+    requires before { AreKnownBefore tables.old.diagrams tables.old.fates new.network.now.devices before }
+    ensures form { IfOk result (λ l. IsNetworkForm tables.new.diagrams tables.new.fates l.form) }
+    ensures world { IfOk result (λ l. l.form.world ≡ new.entry) }
+    ensures like { IfOk result (λ l. AreLike old.now l.form l.like.keys) }
+    ensures kept { OnOk result (TablesGrow tables.old tables.new) }
+{
+    let form = compile_network(alloc, tables, new, Some(old), before)?;
+    let like = like_devices(alloc, old.world, new, &old.wiring, &form.wiring)?;
+    Ok(LaterForm { form, like })
 }

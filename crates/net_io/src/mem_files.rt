@@ -28,7 +28,6 @@ struct MemFile {
 ///
 /// They tell all that they hold. A folder exists where [`MemFiles::folder`] made it, whatever files there
 /// are.
-#[derive(Drop)]
 pub struct MemFiles {
     alloc: Global,
     files: Vec<MemFile>,
@@ -39,6 +38,21 @@ pub struct MemFiles {
     faults: u64,
     // The path of the call that failed last, where there was memory for it.
     last: Option<String>,
+}
+
+impl Drop for MemFiles {
+    fn drop(self) {
+        let MemFiles {
+            alloc: _,
+            files: _,
+            folders: _,
+            calls: _,
+            fails_at: _,
+            most: _,
+            faults: _,
+            last: _,
+        } = self;
+    }
 }
 
 impl Model for MemFiles {

@@ -11,12 +11,22 @@ use std::alloc::Global;
 use std::marker::Model;
 
 /// A sink in memory that takes so many bytes and then fails.
-#[derive(Drop)]
 pub struct MemSink {
     taken: Vec<u8>,
     room: usize,
     most: Option<usize>,
     faults: u64,
+}
+
+impl Drop for MemSink {
+    fn drop(self) {
+        let MemSink {
+            taken: _,
+            room: _,
+            most: _,
+            faults: _,
+        } = self;
+    }
 }
 
 impl Model for MemSink {

@@ -43,6 +43,18 @@ impl Loader {
         }
     }
 
+    /// The files, without their hostnames.
+    fn into_loaded(self) -> Vec<Loaded>
+        ensures { result ≡ self.loaded }
+    {
+        let Loader {
+            loaded,
+            hosts: _,
+            total: _,
+        } = self;
+        loaded
+    }
+
     /// The file at a place.
     fn file_at(&self, place: usize) -> Option<&Loaded>
         ensures { option_copied result ≡ slice_get self.now.loaded.items place }
@@ -153,14 +165,31 @@ pub(crate) fn load_texts(
     ensures no_fault { IfErr result IsNoFault }
 {
     let mut loader = Loader::new(alloc);
+    load_into(alloc, folder, texts, &mut known, &mut loader)?;
+    Ok(loader.into_loaded())
+}
+
+/// Loads the files of these texts behind no file.
+fn load_into(
+    alloc: Global,
+    folder: &str,
+    texts: &[FileText],
+    known: &mut Vec<Option<Result<Reading, LoadFail>>>,
+    loader: &mut Loader,
+) -> Result<(), LoadFail>
+    requires texts { All (IsText folder.now) texts.now }
+    requires known { AreReadings texts.now known.old.items }
+    requires loader { IsLoader loader.old }
+    requires loaded { loader.old.loaded.items ≡ [] }
+    requires total { loader.old.total ≡ 0 }
+    ensures files { (t : Told) → All (Holds t folder.now) texts.now → LoadsNames (λ _. loader.new.loaded.items) t folder.now (map file_of texts.now) result }
+    ensures count { IfOk result (λ _. length loader.new.loaded.items ≡ length texts.now) }
+    ensures loader { IfOk result (λ _. IsLoader loader.new) }
+    ensures no_fault { IfErr result IsNoFault }
+{
     for at in 0..texts.len() {
-        let reading = take_reading(&mut known, at);
+        let reading = take_reading(known, at);
         loader.accept(alloc, folder, &texts[at], reading)?;
     }
-    let Loader {
-        loaded,
-        hosts: _,
-        total: _,
-    } = loader;
-    Ok(loaded)
+    Ok(())
 }

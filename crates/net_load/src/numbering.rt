@@ -5,7 +5,7 @@ ghost use Rattle.net_types.specs.declared.network.Place.{Place};
 ghost use Rattle.net_types.specs.World.{same_place};
 ghost use Rattle.topo_links.specs.Table.{end_names, table_names};
 ghost use Rattle.topo_links.specs.Names.{add_name, add_names, sorted_names};
-ghost use Rattle.net_load.specs.Numbering.{config_names, folder_names, count_names, names_of, number_of, device_of, network_of, place_of, places_of, segments_of, links_of, ingress_of, numbered_of, extra_names, unnamed, all_ingresses, numbered_both};
+ghost use Rattle.net_load.specs.Numbering.{config_names, folder_names, count_names, names_of, number_of, device_of, network_of, place_of, places_of, segments_of, links_of, ingress_of, numbered_with, numbered_of, extra_names, unnamed, all_ingresses, numbered_both_with, numbered_both};
 
 use indexmap::IndexSet;
 use net_types::{
@@ -52,13 +52,28 @@ pub fn number_all(
     ensures { IfOk result (λ numbered. numbered ≡ numbered_of old.items new.items table.now extra.now) }
 {
     let names = collect(alloc, &old, &new, table, extra)?;
+    numbered_with(alloc, &names, old, new, table)
+}
+
+/// The networks and the links over these names.
+fn numbered_with(
+    alloc: Global,
+    names: &NameIndex,
+    old: Vec<Loaded>,
+    new: Vec<Loaded>,
+    table: &LinkTable,
+) -> Result<Numbered, NoMemory>
+    requires { length names.now < 2 ^ 32 }
+    ensures { IfOk result (λ numbered. numbered ≡ numbered_with names.now old.items new.items table.now) }
+{
+    let texts = names.copies(alloc)?;
+    let (old, new) = number_networks(alloc, names, old, new)?;
+    let links = number_links(alloc, names, table)?;
     Ok(Numbered {
-        old: number_network(alloc, &names, old)?,
-        new: number_network(alloc, &names, new)?,
-        links: number_links(alloc, &names, table)?,
-        names: Names {
-            texts: names.copies(alloc)?,
-        },
+        names: Names { texts },
+        old,
+        new,
+        links,
     })
 }
 
@@ -77,23 +92,50 @@ pub fn number_both(
     ensures { IfOk result (λ numbered. numbered ≡ numbered_both old.items new.items table.now new_table.now extra.now) }
 {
     let names = collect_both(alloc, &old, &new, table, new_table, extra)?;
-    let old_links = number_links(alloc, &names, table)?;
-    let new_links = number_links(alloc, &names, new_table)?;
-    let ingress = all_ingresses(
-        alloc,
-        old_links.ingress.as_slice(),
-        new_links.ingress.as_slice(),
-    )?;
+    numbered_both_with(alloc, &names, old, new, table, new_table)
+}
+
+/// The networks and the links of both tables over these names.
+fn numbered_both_with(
+    alloc: Global,
+    names: &NameIndex,
+    old: Vec<Loaded>,
+    new: Vec<Loaded>,
+    table: &LinkTable,
+    new_table: &LinkTable,
+) -> Result<NumberedBoth, NoMemory>
+    requires { length names.now < 2 ^ 32 }
+    ensures { IfOk result (λ numbered. numbered ≡ numbered_both_with names.now old.items new.items table.now new_table.now) }
+{
+    let texts = names.copies(alloc)?;
+    let (old, new) = number_networks(alloc, names, old, new)?;
+    let (old_links, new_links, ingress) = number_both_links(alloc, names, table, new_table)?;
     Ok(NumberedBoth {
-        old: number_network(alloc, &names, old)?,
-        new: number_network(alloc, &names, new)?,
+        names: Names { texts },
+        old,
+        new,
         old_links,
         new_links,
         ingress,
-        names: Names {
-            texts: names.copies(alloc)?,
-        },
     })
+}
+
+/// The links of both tables, and the ingresses of both.
+fn number_both_links(
+    alloc: Global,
+    names: &NameIndex,
+    table: &LinkTable,
+    new_table: &LinkTable,
+) -> Result<(Links, Links, List<Place>), NoMemory>
+    requires { length names.now < 2 ^ 32 }
+    ensures old { IfOk result (λ links. links.0 ≡ links_of names.now table.now) }
+    ensures new { IfOk result (λ links. links.1 ≡ links_of names.now new_table.now) }
+    ensures ingress { IfOk result (λ links. links.2 ≡ all_ingresses (links_of names.now table.now).ingress (links_of names.now new_table.now).ingress) }
+{
+    let old = number_links(alloc, names, table)?;
+    let new = number_links(alloc, names, new_table)?;
+    let ingress = all_ingresses(alloc, old.ingress.as_slice(), new.ingress.as_slice())?;
+    Ok((old, new, ingress))
 }
 
 /// All names of two tables in order.
@@ -109,25 +151,30 @@ fn collect_both(
     ensures count { IfOk result (λ names. length names ≤ count_names old.now new.now table.now (extra_names new_table.now extra.now)) }
 {
     let mut names = NameIndex::new(alloc);
-    add_folder(alloc, &mut names, old)?;
-    add_folder(alloc, &mut names, new)?;
-    add_table(alloc, &mut names, table)?;
+    add_networks(alloc, &mut names, old, new, table)?;
     add_extra(alloc, &mut names, new_table, extra)?;
-    names.sort()?;
     Ok(names)
 }
 
-/// Adds the names of the new network's table, and further ones.
+/// Adds the names of the new network's table, and further ones, and puts all in order.
 fn add_extra(
     alloc: Global,
     names: &mut NameIndex,
     new_table: &LinkTable,
     extra: &[Text],
 ) -> Result<(), NoMemory>
-    ensures { OnOk result (names.new ≡ add_names names.old (extra_names new_table.now extra.now)) }
+    ensures { OnOk result (names.new ≡ sorted_names (add_names names.old (extra_names new_table.now extra.now))) }
 {
     add_table(alloc, names, new_table)?;
+    add_last(alloc, names, extra)
+}
+
+/// Adds further names, and puts all in order.
+fn add_last(alloc: Global, names: &mut NameIndex, extra: &[Text]) -> Result<(), NoMemory>
+    ensures { OnOk result (names.new ≡ sorted_names (add_names names.old extra.now)) }
+{
     add_texts(alloc, names, extra)?;
+    names.sort()?;
     Ok(())
 }
 
@@ -182,12 +229,24 @@ fn collect(
     ensures count { IfOk result (λ names. length names ≤ count_names old.now new.now table.now extra.now) }
 {
     let mut names = NameIndex::new(alloc);
-    add_folder(alloc, &mut names, old)?;
-    add_folder(alloc, &mut names, new)?;
-    add_table(alloc, &mut names, table)?;
-    add_texts(alloc, &mut names, extra)?;
-    names.sort()?;
+    add_networks(alloc, &mut names, old, new, table)?;
+    add_last(alloc, &mut names, extra)?;
     Ok(names)
+}
+
+/// Adds the names of two networks and of a link table.
+fn add_networks(
+    alloc: Global,
+    names: &mut NameIndex,
+    old: &[Loaded],
+    new: &[Loaded],
+    table: &LinkTable,
+) -> Result<(), NoMemory>
+    ensures { OnOk result (names.new ≡ add_names (add_names (add_names names.old (folder_names old.now)) (folder_names new.now)) (table_names table.now)) }
+{
+    add_folder(alloc, names, old)?;
+    add_folder(alloc, names, new)?;
+    add_table(alloc, names, table)
 }
 
 /// Adds the names of a network.
@@ -304,6 +363,22 @@ fn number_network(
     Ok(Network {
         devices: List::new(devices),
     })
+}
+
+/// The old and the new network.
+fn number_networks(
+    alloc: Global,
+    names: &NameIndex,
+    old: Vec<Loaded>,
+    new: Vec<Loaded>,
+) -> Result<(Network, Network), NoMemory>
+    requires { length names.now < 2 ^ 32 }
+    ensures old { IfOk result (λ networks. networks.0 ≡ network_of names.now old.items) }
+    ensures new { IfOk result (λ networks. networks.1 ≡ network_of names.now new.items) }
+{
+    let old = number_network(alloc, names, old)?;
+    let new = number_network(alloc, names, new)?;
+    Ok((old, new))
 }
 
 /// The places of ends.

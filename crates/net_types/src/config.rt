@@ -5,7 +5,6 @@ ghost use Rattle.std.specs.Prelude.{◌≤◌};
 use crate::{List, Text};
 
 /// A router's configuration: what its accepted lines say, in their order.
-#[derive(Drop)]
 pub struct Config {
     /// The device name.
     pub hostname: Text,
@@ -17,6 +16,18 @@ pub struct Config {
     pub lists: List<AccessList>,
     /// The static rules of address translation, in the order of their lines.
     pub nat: List<NatRule>,
+}
+
+impl Drop for Config {
+    fn drop(self) {
+        let Config {
+            hostname: _,
+            interfaces: _,
+            routes: _,
+            lists: _,
+            nat: _,
+        } = self;
+    }
 }
 
 /// An interface of a router.

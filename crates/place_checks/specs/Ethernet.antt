@@ -4,7 +4,6 @@
 use Rattle.std.specs.Prelude.{ℕ, Bool, true, false, ◌&&◌, ◌||◌, List, [], ◌∷◌, Option, Some, None, map, filter, nat_eq, nat_lt, codes}
 use Rattle.std.specs.List.{list_any, starts_with}
 use Rattle.net_types.specs.declared.config.Interface.{Interface}
-use Rattle.net_types.specs.declared.config.Loaded.{Loaded}
 use Rattle.net_types.specs.declared.config.Subnet.{Subnet}
 use Rattle.net_types.specs.Routes.{live_subnets}
 use Rattle.topo_links.specs.declared.table.LinkKind.{LinkKind}

@@ -1,9 +1,9 @@
 //! All that is wrong with the links of networks.
 ghost use Rattle.std.specs.Prelude.{◌≡◌, ◌++◌, IfOk, OnOk, flat_map};
 ghost use Rattle.place_checks.specs.Ethernet.{ethernet_links};
-ghost use Rattle.place_checks.specs.Findings.{line_findings, place_findings};
-ghost use Rattle.place_checks.specs.Index.{AreNets};
-ghost use Rattle.place_checks.specs.Sights.{pair_of, folders_of};
+ghost use Rattle.place_checks.specs.Findings.{device_added, device_unlinked, line_findings, place_findings};
+ghost use Rattle.place_checks.specs.Index.{IsNet, AreNets};
+ghost use Rattle.place_checks.specs.Sights.{folder_of, pair_of, folders_of};
 ghost use Rattle.place_checks.specs.Strays.{stray_findings};
 
 use crate::ends::check_line;
@@ -11,7 +11,7 @@ use crate::ethernet::ethernet_links;
 use crate::nets::{Net, Nets};
 use crate::segments::Segments;
 use crate::strays::stray_findings;
-use crate::unlinked::{check_new, check_old};
+use crate::unlinked::check_nets;
 use crate::{Networks, PlaceFinding, StrayNext};
 use net_types::{Loaded, NoMemory};
 use std::alloc::Global;
@@ -56,13 +56,38 @@ pub fn link_findings(
     ensures ethernet { IfOk result (λ found. found.ethernet.items ≡ ethernet_links (folders_of folders.entry) table.now.lines) }
 {
     let old = Net::of(alloc, folders.old)?;
+    findings_beside(alloc, &old, folders, table.lines.as_slice())
+}
+
+/// All that is found, beside the old network.
+fn findings_beside(
+    alloc: Global,
+    old: &Net,
+    folders: Folders,
+    lines: &[LinkLine],
+) -> Result<LinkFindings, NoMemory>
+    requires folder { folder_of old.now ≡ folders.old.now }
+    requires net { IsNet old.now }
+    ensures places { IfOk result (λ found. found.places.items ≡ place_findings (folders_of folders.entry) lines.now) }
+    ensures strays { IfOk result (λ found. found.strays.items ≡ stray_findings (folders_of folders.entry) lines.now) }
+    ensures ethernet { IfOk result (λ found. found.ethernet.items ≡ ethernet_links (folders_of folders.entry) lines.now) }
+{
     let new = Net::of(alloc, folders.new)?;
     let nets = Nets {
-        old: &old,
+        old,
         new: &new,
         judged: folders.judged,
     };
-    let lines = table.lines.as_slice();
+    findings_of(alloc, nets, lines)
+}
+
+/// All that is found of two networks.
+fn findings_of(alloc: Global, nets: Nets, lines: &[LinkLine]) -> Result<LinkFindings, NoMemory>
+    requires { AreNets nets }
+    ensures places { IfOk result (λ found. found.places.items ≡ place_findings (pair_of nets.entry) lines.now) }
+    ensures strays { IfOk result (λ found. found.strays.items ≡ stray_findings (pair_of nets.entry) lines.now) }
+    ensures ethernet { IfOk result (λ found. found.ethernet.items ≡ ethernet_links (pair_of nets.entry) lines.now) }
+{
     Ok(LinkFindings {
         places: place_findings(alloc, nets, lines)?,
         strays: stray_findings(alloc, nets, lines)?,
@@ -79,12 +104,24 @@ fn place_findings(
     requires { AreNets nets }
     ensures { IfOk result (λ found. found.items ≡ place_findings (pair_of nets.entry) lines.now) }
 {
-    let segments = Segments::of(alloc, lines)?;
     let mut found = Vec::new(alloc);
     check_lines(alloc, nets, lines, &mut found)?;
-    check_old(alloc, nets, &segments, &mut found)?;
-    check_new(alloc, nets, &segments, &mut found)?;
+    check_unlinked(alloc, nets, lines, &mut found)?;
     Ok(found)
+}
+
+/// The places that no segment joins with another one of their subnet.
+fn check_unlinked(
+    alloc: Global,
+    nets: Nets,
+    lines: &[LinkLine],
+    found: &mut Vec<PlaceFinding>,
+) -> Result<(), NoMemory>
+    requires { AreNets nets }
+    ensures { OnOk result (found.new.items ≡ found.old.items ++ flat_map (device_unlinked (pair_of nets.entry) lines.now) (pair_of nets.entry).old ++ flat_map (device_added (pair_of nets.entry) lines.now) (pair_of nets.entry).new) }
+{
+    let segments = Segments::of(alloc, lines)?;
+    check_nets(alloc, nets, &segments, found)
 }
 
 /// The lines of a table.

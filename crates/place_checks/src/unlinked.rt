@@ -197,7 +197,7 @@ fn check_device(
 }
 
 /// The places of the old network.
-pub fn check_old(
+fn check_old(
     alloc: Global,
     nets: Nets,
     segments: &Segments,
@@ -250,7 +250,7 @@ fn check_new_device(
 }
 
 /// The places that the new network alone has.
-pub fn check_new(
+fn check_new(
     alloc: Global,
     nets: Nets,
     segments: &Segments,
@@ -264,4 +264,19 @@ pub fn check_new(
         check_new_device(alloc, nets, segments, device, found)?;
     }
     Ok(())
+}
+
+/// The places of the old network, and those that the new one alone has.
+pub fn check_nets(
+    alloc: Global,
+    nets: Nets,
+    segments: &Segments,
+    found: &mut Vec<PlaceFinding>,
+) -> Result<(), NoMemory>
+    requires nets { AreNets nets }
+    requires segments { AreSegments segments.now }
+    ensures { OnOk result (found.new.items ≡ found.old.items ++ flat_map (device_unlinked (pair_of nets.entry) segments.now.table.now) (folder_of nets.entry.old.now) ++ flat_map (device_added (pair_of nets.entry) segments.now.table.now) (folder_of nets.entry.new.now)) }
+{
+    check_old(alloc, nets, segments, found)?;
+    check_new(alloc, nets, segments, found)
 }

@@ -70,7 +70,7 @@ pub(crate) fn ternary_digit(fixed: u32, bits: u32, k: u32) -> u8
     }
 }
 
-/// The lowest `width` bits, at most 32, as ternary digits, the most significant one first.
+/// Adds the lowest `width` bits, at most 32, as ternary digits, the most significant one first; likewise.
 pub fn append_ternary(out: &mut Vec<u8>, width: u32, fixed: u32, bits: u32) -> Result<(), NoMemory>
     requires { width ≤ 32 }
     ensures { OnOk result (out.new.items ≡ out.old.items ++ ternary_text width fixed bits) }
@@ -95,7 +95,7 @@ pub(crate) fn prefix_length(fixed: u32) -> Option<u32>
     }
 }
 
-/// A field that is an address: `*`, an address, a prefix or ternary digits.
+/// Adds a field that is an address: `*`, an address, a prefix or ternary digits; likewise.
 #[tactic(auto, unfolding(crate::specs::FieldText::address_field_text))]
 pub fn append_address_field(out: &mut Vec<u8>, fixed: u32, bits: u32) -> Result<(), NoMemory>
     ensures { OnOk result (out.new.items ≡ out.old.items ++ address_field_text fixed bits) }
@@ -123,7 +123,7 @@ fn append_partial(out: &mut Vec<u8>, fixed: u32, bits: u32) -> Result<(), NoMemo
     }
 }
 
-/// A field that is a number of `width` bits, at most 16: `*`, the number or ternary digits.
+/// Adds a field that is a number of `width` bits, at most 16: `*`, the number or ternary digits; likewise.
 #[tactic(auto, unfolding(crate::specs::FieldText::number_field_text))]
 pub fn append_number_field(
     out: &mut Vec<u8>,

@@ -4,7 +4,7 @@ ghost use Rattle.std.specs.Prelude.{◌≡◌, ◌≤◌, ◌<◌, ◌^◌, IfOk
 ghost use Rattle.live_network.specs.Live.{IsLive};
 ghost use Rattle.net_view.specs.Borrowed.{world_of};
 ghost use Rattle.rollout.specs.declared.steps.RolloutAnswer.TheVariants as rollout;
-ghost use Rattle.rollout.specs.Steps.{IsRolloutAnswer, IsStep, network_after, networks, world};
+ghost use Rattle.rollout.specs.Steps.{AllHold, IsRolloutAnswer, IsStep, network_after, networks, world};
 
 use crate::failing::{Failure, failure_after, failure_in};
 use crate::network::{Step, network_after};
@@ -61,21 +61,62 @@ pub fn check_rollout<G: Gate + Sync, R: Threads + Wait + Sync>(
     requires questions { length questions.now < 2 ^ 32 }
     ensures { IfOk result (IsRolloutAnswer ttl questions.now (map (world rollout.now.links.now) (networks rollout.now.base.now rollout.now.changes.now))) }
 {
-    let mut network = rollout.base.copy(alloc)?;
     let base = WorldRef {
-        network: &network,
+        network: rollout.base,
         links: rollout.links,
     };
     let mut live = opened(by, alloc, base)?;
-    let mut step = 0;
-    if let Some(first) = failure_in(by, alloc, &live, base, questions, ttl)? {
-        return Ok(fails_at(step, first));
+    check_opened(by, alloc, rollout, &mut live, questions, ttl)
+}
+
+// The same, where this is kept of the first network.
+fn check_opened<G: Gate + Sync, R: Threads + Wait + Sync>(
+    by: &Workers<R, G>,
+    alloc: Global,
+    rollout: &Rollout,
+    live: &mut LiveWays,
+    questions: &[Question],
+    ttl: u8,
+) -> Result<RolloutAnswer, NoMemory>
+    requires live { IsLive (world rollout.now.links.now rollout.now.base.now) live.old }
+    requires ttl { 1 ≤ ttl }
+    requires changes { length rollout.now.changes.now < 2 ^ 32 }
+    requires questions { length questions.now < 2 ^ 32 }
+    ensures { IfOk result (IsRolloutAnswer ttl questions.now (map (world rollout.now.links.now) (networks rollout.now.base.now rollout.now.changes.now))) }
+{
+    let base = WorldRef {
+        network: rollout.base,
+        links: rollout.links,
+    };
+    if let Some(first) = failure_in(by, alloc, live, base, questions, ttl)? {
+        return Ok(fails_at(0, first));
     }
+    check_changes(by, alloc, rollout, live, questions, ttl)
+}
+
+// The same, where the first network meets all questions.
+fn check_changes<G: Gate + Sync, R: Threads + Wait + Sync>(
+    by: &Workers<R, G>,
+    alloc: Global,
+    rollout: &Rollout,
+    live: &mut LiveWays,
+    questions: &[Question],
+    ttl: u8,
+) -> Result<RolloutAnswer, NoMemory>
+    requires live { IsLive (world rollout.now.links.now rollout.now.base.now) live.old }
+    requires hold { AllHold ttl questions.now (world rollout.now.links.now rollout.now.base.now) }
+    requires ttl { 1 ≤ ttl }
+    requires changes { length rollout.now.changes.now < 2 ^ 32 }
+    requires questions { length questions.now < 2 ^ 32 }
+    ensures { IfOk result (IsRolloutAnswer ttl questions.now (map (world rollout.now.links.now) (networks rollout.now.base.now rollout.now.changes.now))) }
+{
+    let mut network = rollout.base.copy(alloc)?;
+    let mut step = 0;
     for change in rollout.changes {
         step += 1;
         let next = network_after(alloc, &network, change)?;
         let at = step_between(&network, &next, change, rollout.links);
-        if let Some(failure) = failure_after(by, alloc, &mut live, at, questions, ttl)? {
+        if let Some(failure) = failure_after(by, alloc, live, at, questions, ttl)? {
             return Ok(fails_at(step, failure));
         }
         network = next;

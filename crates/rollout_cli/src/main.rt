@@ -21,14 +21,18 @@ fn run_words<R: Threads + Wait + Sync>(rt: &HostRuntime, threads: &R, words: &[S
     )
 }
 
+// The status where the words can't be read: they are no command, where there was memory for them.
+fn run_unread<R: Threads + Wait + Sync>(rt: &HostRuntime, threads: &R, kind: ErrorKind) -> u8 {
+    if kind == ErrorKind::OutOfMemory {
+        return no_memory(&mut RealSink::new(rt.stderr()));
+    }
+    run_words(rt, threads, &[])
+}
+
 fn main(rt: HostRuntime) -> ExitCode {
     let status = match words(&rt) {
         Ok(words) => run_words(&rt, &rt, &words),
-        Err(error) if error.kind() == ErrorKind::OutOfMemory => {
-            no_memory(&mut RealSink::new(rt.stderr()))
-        }
-        // Words that can't be read are no command.
-        Err(_) => run_words(&rt, &rt, &[]),
+        Err(error) => run_unread(&rt, &rt, error.kind()),
     };
     ExitCode::from(status)
 }

@@ -31,6 +31,18 @@ impl Draft {
         }
     }
 
+    /// The lines, without the ends that they take.
+    pub fn into_lines(self) -> Vec<LinkLine>
+        ensures { result ≡ self.lines }
+    {
+        let Draft {
+            lines,
+            segment_ends: _,
+            ingress_ends: _,
+        } = self;
+        lines
+    }
+
     /// The ends of a line, which are taken from now on.
     fn take_ends(
         &mut self,

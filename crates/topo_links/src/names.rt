@@ -10,9 +10,14 @@ use std::alloc::Global;
 use std::marker::Model;
 
 /// Names, each once, in the order in which they were added. A name's place is found in constant time.
-#[derive(Drop)]
 pub struct NameIndex {
     names: IndexSet<Vec<u8>>,
+}
+
+impl Drop for NameIndex {
+    fn drop(self) {
+        let NameIndex { names: _ } = self;
+    }
 }
 
 impl Model for NameIndex {

@@ -5,7 +5,7 @@ ghost use Rattle.net_text.specs.Limits.{text_limit};
 ghost use Rattle.net_text.specs.Lines.{piece};
 ghost use Rattle.topo_links.specs.Ends.{Gives};
 ghost use Rattle.topo_links.specs.Table.{effects_after, table_of, whole_table, is_ingress, table_names};
-ghost use Rattle.topo_links.specs.Draft.{Drafted};
+ghost use Rattle.topo_links.specs.Draft.{IsDraft, Drafted};
 
 use crate::draft::Draft;
 use crate::{LinkFail, LinkKind, LinkLine, LinkRefusal, LinkTable};
@@ -45,16 +45,21 @@ fn read_lines(alloc: Global, bytes: &[u8], lines: &[Line]) -> Result<Vec<LinkLin
     ensures { Drafted (λ rows. rows.items) (effects_after bytes.now [] lines.now) result }
 {
     let mut draft = Draft::new(alloc);
+    add_lines(alloc, bytes, lines, &mut draft)?;
+    Ok(draft.into_lines())
+}
+
+/// Adds what the lines of a text say one after the other, up to the first refusal.
+fn add_lines(alloc: Global, bytes: &[u8], lines: &[Line], draft: &mut Draft) -> Result<(), LinkFail>
+    requires draft { IsDraft draft.old }
+    requires empty { draft.old.lines.items ≡ [] }
+    ensures { Drafted (λ _. draft.new.lines.items) (effects_after bytes.now [] lines.now) result }
+{
     for line in lines {
         let words = texts(alloc, bytes, line.words.as_slice())?;
         draft.add_line(alloc, line.number, &words)?;
     }
-    let Draft {
-        lines,
-        segment_ends: _,
-        ingress_ends: _,
-    } = draft;
-    Ok(lines)
+    Ok(())
 }
 
 /// The words of a line.

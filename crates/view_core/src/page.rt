@@ -15,12 +15,12 @@ use topo_links::LinkTable;
 /// The page of a report: its summary, its groups, and a picture of the network where there is a link table.
 ///
 /// The table has the first groups of each kind of change, and the script brings the others.
-pub(crate) fn page_bytes(
+pub(crate) fn page_bytes<'a>(
     alloc: Global,
-    names: &Names,
-    sections: &[Section],
-    links: Option<&LinkTable>,
-    title: &Text,
+    names: &'a Names,
+    sections: &'a [Section],
+    links: Option<&'a LinkTable>,
+    title: &'a Text,
 ) -> Result<Vec<u8>, NoMemory>
     ensures begins { IfOk result (λ text. starts_with nat_eq text.items page_head ≡ true) }
     ensures escaped { IfOk result (λ text. ∥ IsPage text.items ∥₁) }
@@ -30,18 +30,25 @@ pub(crate) fn page_bytes(
 
 /// The same, with a text that is folded under each of the first groups: these go by their ingresses, and those of an ingress by
 /// what is looked at first, as loops.
-pub fn told_page(
+pub fn told_page<'a>(
     alloc: Global,
-    names: &Names,
-    sections: &[Section],
-    links: Option<&LinkTable>,
-    title: &Text,
-    told: &[Vec<u8>],
+    names: &'a Names,
+    sections: &'a [Section],
+    links: Option<&'a LinkTable>,
+    title: &'a Text,
+    told: &'a [Vec<u8>],
 ) -> Result<Vec<u8>, NoMemory>
     ensures begins { IfOk result (λ text. starts_with nat_eq text.items page_head ≡ true) }
     ensures escaped { IfOk result (λ text. ∥ IsPage text.items ∥₁) }
 {
-    let behind = behind_doctype(alloc, names, sections, links, title, told)?;
+    let shown = Shown {
+        names,
+        sections,
+        links,
+        title,
+        told,
+    };
+    let behind = behind_doctype(alloc, shown)?;
     page_with(alloc, &behind)
 }
 
@@ -56,27 +63,42 @@ pub fn page_with(alloc: Global, behind: &Sheet) -> Result<Vec<u8>, NoMemory>
     Ok(page.finished())
 }
 
-fn behind_doctype(
-    alloc: Global,
-    names: &Names,
-    sections: &[Section],
-    links: Option<&LinkTable>,
-    title: &Text,
-    told: &[Vec<u8>],
-) -> Result<Sheet, NoMemory> {
-    let mut groups = Groups::new(alloc);
-    for section in sections {
-        groups.add(alloc, names, section, told)?;
-    }
+// What a page shows.
+#[derive(Clone, Copy)]
+struct Shown<'a> {
+    names: &'a Names,
+    sections: &'a [Section],
+    links: Option<&'a LinkTable>,
+    title: &'a Text,
+    told: &'a [Vec<u8>],
+}
+
+fn behind_doctype(alloc: Global, shown: Shown) -> Result<Sheet, NoMemory> {
     let mut page = Sheet::new(alloc);
-    add_heading(&mut page, title)?;
-    groups.add_summary(&mut page)?;
-    groups.add_table(&mut page)?;
-    if let Some(table) = links {
-        add_picture(alloc, &mut page, names, sections, table)?;
-    }
-    page.markup(Markup::Script)?;
+    add_shown(alloc, &mut page, shown)?;
     Ok(page)
+}
+
+fn add_shown(alloc: Global, page: &mut Sheet, shown: Shown) -> Result<(), NoMemory> {
+    add_heading(page, shown.title)?;
+    add_groups(alloc, page, shown)?;
+    if let Some(table) = shown.links {
+        add_picture(alloc, page, shown.names, shown.sections, table)?;
+    }
+    page.markup(Markup::Script)
+}
+
+fn add_groups(alloc: Global, page: &mut Sheet, shown: Shown) -> Result<(), NoMemory> {
+    let mut groups = Groups::new(alloc);
+    add_sections(alloc, &mut groups, shown)?;
+    groups.add_to(page)
+}
+
+fn add_sections(alloc: Global, groups: &mut Groups, shown: Shown) -> Result<(), NoMemory> {
+    for section in shown.sections {
+        groups.add(alloc, shown.names, section, shown.told)?;
+    }
+    Ok(())
 }
 
 fn add_heading(page: &mut Sheet, title: &Text) -> Result<(), NoMemory> {

@@ -21,14 +21,19 @@ pub(crate) fn add_picture(
     table: &LinkTable,
 ) -> Result<(), NoMemory> {
     let plan = plan_of(alloc, table)?;
-    add_plan(page, &plan)?;
     let ends = ends_of(alloc, names, sections)?;
-    for (name, point) in plan.names.as_slice().iter().zip(plan.layout.points.iter()) {
+    add_devices(page, &plan, &ends)
+}
+
+fn add_devices(page: &mut Sheet, plan: &Plan, ends: &NameIndex) -> Result<(), NoMemory> {
+    add_plan(page, plan)?;
+    let points = &plan.drawing.layout.points;
+    for (name, point) in plan.names.as_slice().iter().zip(points.iter()) {
         page.markup(Markup::Device)?;
         if ends.has(name) {
             page.markup(Markup::Ends)?;
         }
-        add_entry(page, &plan, name)?;
+        add_entry(page, plan, name)?;
         page.markup(Markup::DeviceName)?;
         page.text(name.as_bytes())?;
         page.markup(Markup::DeviceAcross)?;
@@ -54,11 +59,16 @@ pub fn add_ways(
     ways: &Ways,
 ) -> Result<(), NoMemory> {
     let plan = plan_of(alloc, table)?;
-    add_plan(page, &plan)?;
-    for (name, point) in plan.names.as_slice().iter().zip(plan.layout.points.iter()) {
+    add_passed(page, &plan, ways)
+}
+
+fn add_passed(page: &mut Sheet, plan: &Plan, ways: &Ways) -> Result<(), NoMemory> {
+    add_plan(page, plan)?;
+    let points = &plan.drawing.layout.points;
+    for (name, point) in plan.names.as_slice().iter().zip(points.iter()) {
         page.markup(Markup::Node)?;
         add_marks(page, ways, name)?;
-        add_entry(page, &plan, name)?;
+        add_entry(page, plan, name)?;
         page.markup(Markup::NodeAcross)?;
         add_circle(page, name, *point)?;
         page.text(way_of(ways, name))?;
@@ -103,30 +113,45 @@ fn way_of(ways: &Ways, name: &Text) -> &'static [u8]
 struct Plan {
     names: List<Text>,
     entries: NameIndex,
+    drawing: Drawing,
+}
+
+// The links between the devices, and where these stand.
+#[derive(Drop)]
+struct Drawing {
     graph: Graph,
     layout: Layout,
 }
 
 fn plan_of(alloc: Global, table: &LinkTable) -> Result<Plan, NoMemory> {
     let devices = devices_of(alloc, table)?;
-    let graph = graph_of(alloc, &devices, table)?;
-    let layout = layout_of(alloc, &graph)?;
+    plan_with(alloc, table, &devices)
+}
+
+fn plan_with(alloc: Global, table: &LinkTable, devices: &NameIndex) -> Result<Plan, NoMemory> {
+    let drawing = drawing_of(alloc, table, devices)?;
+    let names = devices.copies(alloc)?;
+    let entries = entries_of(alloc, table)?;
     Ok(Plan {
-        names: devices.copies(alloc)?,
-        entries: entries_of(alloc, table)?,
-        graph,
-        layout,
+        names,
+        entries,
+        drawing,
     })
 }
 
+fn drawing_of(alloc: Global, table: &LinkTable, devices: &NameIndex) -> Result<Drawing, NoMemory> {
+    let graph = graph_of(alloc, devices, table)?;
+    let layout = layout_of(alloc, &graph)?;
+    Ok(Drawing { graph, layout })
+}
 // The picture without its devices.
 fn add_plan(page: &mut Sheet, plan: &Plan) -> Result<(), NoMemory> {
     page.markup(Markup::Network)?;
-    page.number(plan.layout.size.across)?;
+    page.number(plan.drawing.layout.size.across)?;
     page.markup(Markup::Blank)?;
-    page.number(plan.layout.size.down)?;
+    page.number(plan.drawing.layout.size.down)?;
     page.markup(Markup::NetworkEnd)?;
-    add_links(page, &plan.graph, &plan.layout)
+    add_links(page, &plan.drawing)
 }
 
 fn add_entry(page: &mut Sheet, plan: &Plan, name: &Text) -> Result<(), NoMemory> {
@@ -219,9 +244,10 @@ fn device_of<'n>(names: &'n Names, outcome: &Outcome) -> Option<&'n Text> {
     }
 }
 
-fn add_links(page: &mut Sheet, graph: &Graph, layout: &Layout) -> Result<(), NoMemory> {
-    for link in &graph.links {
-        if let (Some(a), Some(b)) = (layout.points.get(link.0), layout.points.get(link.1)) {
+fn add_links(page: &mut Sheet, drawing: &Drawing) -> Result<(), NoMemory> {
+    let points = &drawing.layout.points;
+    for link in &drawing.graph.links {
+        if let (Some(a), Some(b)) = (points.get(link.0), points.get(link.1)) {
             add_link(page, *a, *b)?;
         }
     }

@@ -148,8 +148,14 @@ impl Groups {
         count
     }
 
-    /// Adds the counts of groups, by ingress and kind of change, and the ingresses where nothing changes.
-    pub(crate) fn add_summary(&self, page: &mut Sheet) -> Result<(), NoMemory> {
+    /// Adds the summary and the table to a page.
+    pub(crate) fn add_to(&self, page: &mut Sheet) -> Result<(), NoMemory> {
+        self.add_summary(page)?;
+        self.add_table(page)
+    }
+
+    // Adds the counts of groups, by ingress and kind of change, and the ingresses where nothing changes.
+    fn add_summary(&self, page: &mut Sheet) -> Result<(), NoMemory> {
         if self.rows == 0 {
             page.markup(Markup::Nothing)?;
             page.number(self.ingresses)?;
@@ -191,8 +197,8 @@ impl Groups {
         page.markup(Markup::UntouchedEnd)
     }
 
-    /// Adds the filter, the table with the first groups of each kind of change, and the lines of the others.
-    pub(crate) fn add_table(&self, page: &mut Sheet) -> Result<(), NoMemory> {
+    // Adds the filter, the table with the first groups of each kind of change, and the lines of the others.
+    fn add_table(&self, page: &mut Sheet) -> Result<(), NoMemory> {
         page.markup(Markup::Form)?;
         page.part(&self.choices)?;
         page.markup(Markup::Changes)?;

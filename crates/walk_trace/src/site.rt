@@ -11,12 +11,22 @@ use std::marker::Model;
 
 /// A network with its links, which are indexed, and what is kept of its devices: where many packets are traced, each of them finds
 /// what the earlier ones asked. What is kept changes no answer.
-#[derive(Drop)]
 pub struct Site<'a> {
     world: WorldRef<'a>,
     wiring: Wiring<'a>,
     routes: Routes<'a>,
     moves: Moves<'a>,
+}
+
+impl<'a> Drop for Site<'a> {
+    fn drop(self) {
+        let Site {
+            world: _,
+            wiring: _,
+            routes: _,
+            moves: _,
+        } = self;
+    }
 }
 
 impl<'a> Model for Site<'a> {

@@ -1,4 +1,4 @@
-use Rattle.std.proofs.Common.{◌≡◌, ◌++◌, ap, ◌∙◌, arith}
+use Rattle.std.proofs.Common.{◌++◌, ap, ◌∙◌, arith}
 use Rattle.place_checks.proofs.Firsts.{push_flat}
 use Rattle.doctor_warnings.specs.Texts.{counted_line, counted_if_any}
 use Rattle.doctor_warnings.proofs.note_text.append_counted.Goals as goal

@@ -1,4 +1,4 @@
-use Rattle.std.proofs.Common.{◌≡◌, ◌++◌, ◌∷◌, [], ℕ, List, map, take, drop}
+use Rattle.std.proofs.Common.{[], ℕ, List}
 use Rattle.std.specs.Prelude.{Option}
 use Rattle.doctor_warnings.specs.Beside.{IsBeside, IsGone}
 use Rattle.doctor_warnings.proofs.passing.add_told.Given as goal

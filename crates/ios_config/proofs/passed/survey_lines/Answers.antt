@@ -5,12 +5,12 @@ use Rattle.ios_config.proofs.passed.survey_lines.Goals as goal
 
 pub loop-line-init : goal.loop-line-init
 loop-line-init c =
-    let s = c.new-survey.result in
+    let s = c.args.survey.now in
     record {
-      parts = c.new-survey.ensures.parts;
-      room = first_room c.args.bytes.now c.args.lines.now s.draft c.requires.size c.requires.lines c.new-survey.ensures.parts;
-      refusal = c.new-survey.ensures.refusal;
-      passed = first_passed c.args.bytes.now c.args.lines.now s c.requires.lines c.new-survey.ensures.passed c.new-survey.ensures.under;
+      parts = c.requires.new.parts;
+      room = first_room c.args.bytes.now c.args.lines.now s.draft c.requires.size c.requires.lines c.requires.new.parts;
+      refusal = c.requires.new.refusal;
+      passed = first_passed c.args.bytes.now c.args.lines.now s c.requires.lines c.requires.new.passed c.requires.new.under;
     }
 
 pub effect-requires : goal.effect-requires

@@ -1,8 +1,0 @@
-use Rattle.std.proofs.Common.{All}
-use Rattle.list_tables.specs.Made.{IsMadeFates}
-use Rattle.list_tables.proofs.fates.made_share.Given as goal
-
-abbrev pub invariant-loop-one : goal.invariant-loop-one
-invariant-loop-one l = record {
-  made : All (IsMadeFates l.tables l.devices) l.made.items;
-}
