@@ -28,23 +28,15 @@ pub(crate) fn measure(rt: &HostRuntime, count: u64, open: u64, timed: bool) -> i
 }
 
 fn measure_list(rt: &HostRuntime, list: &[Entry], open: u64, timed: bool) -> io::Result<()> {
-    let mut diagrams = Diagrams::new(rt.alloc()).map_err(out_of_memory)?;
-    let mut numbers = Vec::new(rt.alloc());
-    let start = Instant::now(rt)?;
-    let Ok(first) = add_list(&mut diagrams, list, &mut numbers) else {
-        return Err(out_of_memory(NoMemory));
-    };
-    let time = start.elapsed(rt)?.as_micros();
-    let made = diagrams.count();
-    let start = Instant::now(rt)?;
-    let Ok(second) = turn(&mut diagrams, list, &mut numbers) else {
-        return Err(out_of_memory(NoMemory));
-    };
-    let more_time = start.elapsed(rt)?.as_micros();
+    let Versions {
+        made,
+        more,
+        same,
+        time,
+        more_time,
+    } = made_versions(rt, list)?;
     let count = list.len().saturating_sub(1);
     let cubes = cubes_of(list);
-    let more = diagrams.count().saturating_sub(made);
-    let same = first == second;
     println!(rt;
         "list: entries {count} open {open} cubes {cubes} numbers {made} second version {more} same {same}"
     )?;
@@ -52,6 +44,48 @@ fn measure_list(rt: &HostRuntime, list: &[Entry], open: u64, timed: bool) -> io:
         println!(rt; "  {time} us, second version {more_time} us")?;
     }
     Ok(())
+}
+
+/// What a list and its second version take: the numbers that the first made and that the second added, whether they are
+/// one function, and their microseconds.
+#[derive(Clone, Copy)]
+struct Versions {
+    made: usize,
+    more: usize,
+    same: bool,
+    time: u128,
+    more_time: u128,
+}
+
+fn made_versions(rt: &HostRuntime, list: &[Entry]) -> io::Result<Versions> {
+    let mut diagrams = Diagrams::new(rt.alloc()).map_err(out_of_memory)?;
+    make_versions(rt, &mut diagrams, list)
+}
+
+fn make_versions(
+    rt: &HostRuntime,
+    diagrams: &mut Diagrams,
+    list: &[Entry],
+) -> io::Result<Versions> {
+    let mut numbers = Vec::new(rt.alloc());
+    let start = Instant::now(rt)?;
+    let Ok(first) = add_list(diagrams, list, &mut numbers) else {
+        return Err(out_of_memory(NoMemory));
+    };
+    let time = start.elapsed(rt)?.as_micros();
+    let made = diagrams.count();
+    let start = Instant::now(rt)?;
+    let Ok(second) = turn(diagrams, list, &mut numbers) else {
+        return Err(out_of_memory(NoMemory));
+    };
+    let more_time = start.elapsed(rt)?.as_micros();
+    Ok(Versions {
+        made,
+        more: diagrams.count().saturating_sub(made),
+        same: first == second,
+        time,
+        more_time,
+    })
 }
 
 // How many cubes the list has.

@@ -6,7 +6,7 @@
 use crate::random::Random;
 use crate::{number, out_of_memory};
 use fib_lookup::compile_rib;
-use net_types::{Config, Interface, List, NoMemory, Route, RouteExit, Side, Subnet, Text};
+use net_types::{Config, Interface, List, NoMemory, Rib, Route, RouteExit, Side, Subnet, Text};
 use rib_build::build;
 use std::alloc::Global;
 use std::io;
@@ -97,17 +97,23 @@ fn measure_router(rt: &HostRuntime, config: &Config, timed: bool) -> io::Result<
         return Err(out_of_memory(NoMemory));
     };
     let built = start.elapsed(rt)?.as_micros();
-    let start = Instant::now(rt)?;
-    let Ok(cubes) = compile_rib(rt.alloc(), &rib) else {
-        return Err(out_of_memory(NoMemory));
-    };
-    let compiled = start.elapsed(rt)?.as_micros();
-    let (all, installed, parts) = (rib.count, rib.routes.as_slice().len(), cubes.len());
+    let (parts, compiled) = compile_table(rt, &rib)?;
+    let (all, installed) = (rib.count, rib.routes.as_slice().len());
     println!(rt; "routes {all} installed {installed} cubes {parts}")?;
     if timed {
         println!(rt; "  build {built} us, compile {compiled} us")?;
     }
     Ok(())
+}
+
+// How many cubes the table has, and the microseconds in which they are made.
+fn compile_table(rt: &HostRuntime, rib: &Rib) -> io::Result<(usize, u128)> {
+    let start = Instant::now(rt)?;
+    let Ok(cubes) = compile_rib(rt.alloc(), rib) else {
+        return Err(out_of_memory(NoMemory));
+    };
+    let compiled = start.elapsed(rt)?.as_micros();
+    Ok((cubes.len(), compiled))
 }
 
 /// A table of as many routes as the word says.

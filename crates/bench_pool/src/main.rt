@@ -63,13 +63,7 @@ fn work<R: Threads + Wait + Sync>(
 }
 
 fn main(rt: HostRuntime) -> anyhow::Result<()> {
-    let rounds = match env::args(&rt)?.skip(1).next() {
-        Some(word) => Some(
-            word.parse::<u64>()
-                .context("the word is a number of rounds")?,
-        ),
-        None => None,
-    };
+    let rounds = rounds(&rt)?;
     let even = Shape {
         roots: 64,
         depth: 8,
@@ -79,25 +73,59 @@ fn main(rt: HostRuntime) -> anyhow::Result<()> {
         depth: 14,
     };
     for shape in [even, uneven] {
-        let mut alone: u128 = 0;
-        for workers in [1, 2, 4] {
-            let start = Instant::now(&rt)?;
-            let tally = work(&rt, rt.alloc(), shape, workers, rounds.unwrap_or(0))
-                .ok()
-                .context("no memory")?;
-            let time = start.elapsed(&rt)?.as_micros().max(1);
-            println!(rt;
-                "{} roots, {workers} workers: {} tasks, {} leaves",
-                shape.roots, tally.tasks, tally.leaves
-            )?;
-            if workers == 1 {
-                alone = time;
-            }
-            if rounds.is_some() {
-                let percent = alone.saturating_mul(100) / time;
-                println!(rt; "    {} ms, {percent} %", time / 1000)?;
-            }
+        show(&rt, &rt, shape, rounds)?;
+    }
+    Ok(())
+}
+
+// The number that the word is, where there is one.
+fn rounds(rt: &HostRuntime) -> anyhow::Result<Option<u64>> {
+    let word = env::args(rt)?.skip(1).next();
+    let Some(word) = word else {
+        return Ok(None);
+    };
+    let rounds = word
+        .parse::<u64>()
+        .context("the word is a number of rounds")?;
+    Ok(Some(rounds))
+}
+
+fn show<R: Threads + Wait + Sync>(
+    rt: &HostRuntime,
+    threads: &R,
+    shape: Shape,
+    rounds: Option<u64>,
+) -> anyhow::Result<()> {
+    let mut alone: u128 = 0;
+    for workers in [1, 2, 4] {
+        let time = show_work(rt, threads, shape, workers, rounds.unwrap_or(0))?;
+        if workers == 1 {
+            alone = time;
+        }
+        if rounds.is_some() {
+            let percent = alone.saturating_mul(100) / time.max(1);
+            println!(rt; "    {} ms, {percent} %", time / 1000)?;
         }
     }
     Ok(())
+}
+
+// Prints what is found, and answers the microseconds, of which there is one at least.
+fn show_work<R: Threads + Wait + Sync>(
+    rt: &HostRuntime,
+    threads: &R,
+    shape: Shape,
+    workers: u32,
+    rounds: u64,
+) -> anyhow::Result<u128> {
+    let start = Instant::now(rt)?;
+    let tally = work(threads, rt.alloc(), shape, workers, rounds)
+        .ok()
+        .context("no memory")?;
+    let time = start.elapsed(rt)?.as_micros().max(1);
+    println!(rt;
+        "{} roots, {workers} workers: {} tasks, {} leaves",
+        shape.roots, tally.tasks, tally.leaves
+    )?;
+    Ok(time)
 }

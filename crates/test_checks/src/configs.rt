@@ -3,28 +3,39 @@
 use crate::networks::shown;
 use config_checks::{ConfigFinding, config_findings};
 use net_types::{Loaded, Subnet, Text};
+use std::io;
 use test_stop::Stop;
 use topo_links::NameIndex;
 
 /// The findings of each device; the list 12 is named elsewhere.
 pub(crate) fn show(rt: &HostRuntime, devices: &[Loaded]) -> Result<(), Stop> {
+    let name = Text::copy_of(rt.alloc(), b"12")?;
     let mut elsewhere = NameIndex::new(rt.alloc());
-    elsewhere.add(rt.alloc(), &Text::copy_of(rt.alloc(), b"12")?)?;
+    elsewhere.add(rt.alloc(), &name)?;
+    show_devices(rt, devices, &elsewhere)
+}
+
+fn show_devices(rt: &HostRuntime, devices: &[Loaded], elsewhere: &NameIndex) -> Result<(), Stop> {
     for device in devices {
         println!(rt; "== {}", shown(&device.config.hostname))?;
-        for finding in &config_findings(rt.alloc(), &device.config, &elsewhere)? {
-            show_finding(rt, finding)?;
-        }
+        let found = config_findings(rt.alloc(), &device.config, elsewhere)?;
+        show_findings(rt, &found)?;
     }
     Ok(())
 }
 
-fn show_route(rt: &HostRuntime, what: &str, prefix: &Subnet, next: u32) -> Result<(), Stop> {
-    println!(rt; "{what} {}/{} {next}", prefix.address, prefix.length)?;
+fn show_findings(rt: &HostRuntime, found: &[ConfigFinding]) -> io::Result<()> {
+    for finding in found {
+        show_finding(rt, finding)?;
+    }
     Ok(())
 }
 
-fn show_finding(rt: &HostRuntime, finding: &ConfigFinding) -> Result<(), Stop> {
+fn show_route(rt: &HostRuntime, what: &str, prefix: &Subnet, next: u32) -> io::Result<()> {
+    println!(rt; "{what} {}/{} {next}", prefix.address, prefix.length)
+}
+
+fn show_finding(rt: &HostRuntime, finding: &ConfigFinding) -> io::Result<()> {
     match finding {
         ConfigFinding::NoList {
             interface,
@@ -34,7 +45,7 @@ fn show_finding(rt: &HostRuntime, finding: &ConfigFinding) -> Result<(), Stop> {
             "no list {} {direction:?} {}",
             shown(interface),
             shown(list)
-        )?,
+        ),
         ConfigFinding::EmptyList {
             interface,
             direction,
@@ -43,8 +54,8 @@ fn show_finding(rt: &HostRuntime, finding: &ConfigFinding) -> Result<(), Stop> {
             "empty list {} {direction:?} {}",
             shown(interface),
             shown(list)
-        )?,
-        ConfigFinding::UnusedList { list } => println!(rt; "unused list {}", shown(list))?,
+        ),
+        ConfigFinding::UnusedList { list } => println!(rt; "unused list {}", shown(list)),
         ConfigFinding::MaskAsWildcard {
             list,
             sequence,
@@ -55,18 +66,17 @@ fn show_finding(rt: &HostRuntime, finding: &ConfigFinding) -> Result<(), Stop> {
             shown(list),
             address.value,
             address.wild
-        )?,
-        ConfigFinding::NoInside => println!(rt; "no inside")?,
-        ConfigFinding::NoOutside => println!(rt; "no outside")?,
-        ConfigFinding::NotInside { local } => println!(rt; "not inside {local}")?,
-        ConfigFinding::NotOutside { global } => println!(rt; "not outside {global}")?,
-        other => show_next(rt, other)?,
+        ),
+        ConfigFinding::NoInside => println!(rt; "no inside"),
+        ConfigFinding::NoOutside => println!(rt; "no outside"),
+        ConfigFinding::NotInside { local } => println!(rt; "not inside {local}"),
+        ConfigFinding::NotOutside { global } => println!(rt; "not outside {global}"),
+        other => show_next(rt, other),
     }
-    Ok(())
 }
 
 /// A finding of a next hop.
-fn show_next(rt: &HostRuntime, finding: &ConfigFinding) -> Result<(), Stop> {
+fn show_next(rt: &HostRuntime, finding: &ConfigFinding) -> io::Result<()> {
     match finding {
         ConfigFinding::NextIsOwn { prefix, next } => show_route(rt, "own", prefix, *next),
         ConfigFinding::NextNowhere { prefix, next } => show_route(rt, "nowhere", prefix, *next),

@@ -6,14 +6,23 @@ mod configs;
 mod networks;
 mod places;
 
+use net_types::Loaded;
 use std::io;
 use test_stop::Stop;
 
 fn show_all(rt: &HostRuntime) -> Result<(), Stop> {
     let old = networks::read(rt, "old")?;
+    show_old(rt, &old)
+}
+
+fn show_old(rt: &HostRuntime, old: &[Loaded]) -> Result<(), Stop> {
+    show_both(rt, old)?;
+    configs::show(rt, old)
+}
+
+fn show_both(rt: &HostRuntime, old: &[Loaded]) -> Result<(), Stop> {
     let new = networks::read(rt, "new")?;
-    places::show(rt, &old, &new)?;
-    configs::show(rt, &old)
+    places::show(rt, old, &new)
 }
 
 fn main(rt: HostRuntime) -> io::Result<()> {

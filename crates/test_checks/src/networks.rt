@@ -2,6 +2,7 @@
 
 use ios_config::{ConfigFail, Reading, read_config};
 use net_types::{Duplicate, Loaded, Text};
+use std::alloc::Global;
 use std::fs;
 use test_stop::Stop;
 
@@ -10,32 +11,32 @@ pub(crate) fn read(rt: &HostRuntime, path: &str) -> Result<Vec<Loaded>, Stop> {
     let texts = fs::read_to_string(rt, path)?;
     let mut devices = Vec::new(rt.alloc());
     for text in texts.as_str().split("==\n").skip(1) {
-        if let Some(device) = device(rt, text.as_bytes())? {
-            devices.push(device)?;
-        }
+        add_device(rt, &mut devices, text.as_bytes())?;
     }
     Ok(devices)
 }
 
-fn device(rt: &HostRuntime, text: &[u8]) -> Result<Option<Loaded>, Stop> {
+fn add_device(rt: &HostRuntime, devices: &mut Vec<Loaded>, text: &[u8]) -> Result<(), Stop> {
     if text.len() > 16_777_216 {
-        return Ok(None);
+        return Ok(());
     }
     match read_config(rt.alloc(), text) {
-        Ok(Reading { config, passed }) => {
-            let file = config.hostname.copy(rt.alloc())?;
-            Ok(Some(Loaded {
-                file,
-                config,
-                passed,
-            }))
-        }
+        Ok(reading) => add_read(rt.alloc(), devices, reading),
         Err(ConfigFail::Refused { refusal }) => {
-            println!(rt; "refused line {}", refusal.line)?;
-            Ok(None)
+            Ok(println!(rt; "refused line {}", refusal.line)?)
         }
         Err(ConfigFail::NoMemory) => Err(Stop::NoMemory),
     }
+}
+
+fn add_read(alloc: Global, devices: &mut Vec<Loaded>, reading: Reading) -> Result<(), Stop> {
+    let Reading { config, passed } = reading;
+    let file = config.hostname.copy(alloc)?;
+    Ok(devices.push(Loaded {
+        file,
+        config,
+        passed,
+    })?)
 }
 
 /// A name as it is printed.

@@ -2,8 +2,8 @@
 
 use crate::networks::shown;
 use net_types::{Loaded, Text};
-use place_checks::{Folders, Networks, PlaceFinding, StrayNext, link_findings};
-use std::fs;
+use place_checks::{Folders, LinkFindings, Networks, PlaceFinding, StrayNext, link_findings};
+use std::{fs, io};
 use test_stop::Stop;
 use topo_links::{LinkTable, read_links};
 
@@ -13,20 +13,27 @@ pub(crate) fn show(rt: &HostRuntime, old: &[Loaded], new: &[Loaded]) -> Result<(
     if text.len() > 16_777_216 {
         return Ok(());
     }
-    let Ok(table) = read_links(rt.alloc(), text.as_bytes()) else {
-        println!(rt; "no table")?;
-        return Ok(());
-    };
+    match read_links(rt.alloc(), text.as_bytes()) {
+        Ok(table) => show_table(rt, old, new, &table),
+        Err(_) => Ok(println!(rt; "no table")?),
+    }
+}
+
+fn show_table(
+    rt: &HostRuntime,
+    old: &[Loaded],
+    new: &[Loaded],
+    table: &LinkTable,
+) -> Result<(), Stop> {
     for judged in [Networks::Both, Networks::Old, Networks::New] {
         println!(rt; "== {judged:?}")?;
-        let folders = Folders { old, new, judged };
-        show_table(rt, folders, &table)?;
+        let found = link_findings(rt.alloc(), Folders { old, new, judged }, table)?;
+        show_found(rt, &found)?;
     }
     Ok(())
 }
 
-fn show_table(rt: &HostRuntime, folders: Folders, table: &LinkTable) -> Result<(), Stop> {
-    let found = link_findings(rt.alloc(), folders, table)?;
+fn show_found(rt: &HostRuntime, found: &LinkFindings) -> io::Result<()> {
     for finding in &found.places {
         show_finding(rt, finding)?;
     }
@@ -39,40 +46,38 @@ fn show_table(rt: &HostRuntime, folders: Folders, table: &LinkTable) -> Result<(
     Ok(())
 }
 
-fn show_place(rt: &HostRuntime, place: &(Text, Text)) -> Result<(), Stop> {
-    print!(rt; " {} {}", shown(&place.0), shown(&place.1))?;
-    Ok(())
+fn show_place(rt: &HostRuntime, place: &(Text, Text)) -> io::Result<()> {
+    print!(rt; " {} {}", shown(&place.0), shown(&place.1))
 }
 
-fn show_finding(rt: &HostRuntime, finding: &PlaceFinding) -> Result<(), Stop> {
+// The place behind the words, and the networks behind it.
+fn show_in(
+    rt: &HostRuntime,
+    words: &str,
+    line: u32,
+    place: &(Text, Text),
+    networks: Networks,
+) -> io::Result<()> {
+    print!(rt; "line {line} {words}")?;
+    show_place(rt, place)?;
+    println!(rt; " {networks:?}")
+}
+
+fn show_finding(rt: &HostRuntime, finding: &PlaceFinding) -> io::Result<()> {
     match finding {
         PlaceFinding::Missing { line, place, near } => {
-            print!(rt; "line {line} missing")?;
-            show_place(rt, place)?;
-            if let Some(near) = near {
-                print!(rt; " near")?;
-                show_place(rt, near)?;
-            }
-            println!(rt; "")?;
+            show_missing(rt, *line, place, near.as_ref())
         }
         PlaceFinding::Shut {
             line,
             place,
             networks,
-        } => {
-            print!(rt; "line {line} shut")?;
-            show_place(rt, place)?;
-            println!(rt; " {networks:?}")?;
-        }
+        } => show_in(rt, "shut", *line, place, *networks),
         PlaceFinding::NoAddress {
             line,
             place,
             networks,
-        } => {
-            print!(rt; "line {line} no address")?;
-            show_place(rt, place)?;
-            println!(rt; " {networks:?}")?;
-        }
+        } => show_in(rt, "no address", *line, place, *networks),
         PlaceFinding::Apart {
             line,
             place,
@@ -80,9 +85,7 @@ fn show_finding(rt: &HostRuntime, finding: &PlaceFinding) -> Result<(), Stop> {
             networks,
         } => {
             print!(rt; "line {line} apart")?;
-            show_place(rt, place)?;
-            show_place(rt, first)?;
-            println!(rt; " {networks:?}")?;
+            show_two(rt, place, first, *networks)
         }
         PlaceFinding::Unlinked {
             place,
@@ -90,17 +93,39 @@ fn show_finding(rt: &HostRuntime, finding: &PlaceFinding) -> Result<(), Stop> {
             networks,
         } => {
             print!(rt; "unlinked")?;
-            show_place(rt, place)?;
-            show_place(rt, other)?;
-            println!(rt; " {networks:?}")?;
+            show_two(rt, place, other, *networks)
         }
     }
-    Ok(())
 }
 
-fn show_stray(rt: &HostRuntime, stray: &StrayNext) -> Result<(), Stop> {
+fn show_missing(
+    rt: &HostRuntime,
+    line: u32,
+    place: &(Text, Text),
+    near: Option<&(Text, Text)>,
+) -> io::Result<()> {
+    print!(rt; "line {line} missing")?;
+    show_place(rt, place)?;
+    if let Some(near) = near {
+        print!(rt; " near")?;
+        show_place(rt, near)?;
+    }
+    println!(rt; "")
+}
+
+fn show_two(
+    rt: &HostRuntime,
+    place: &(Text, Text),
+    other: &(Text, Text),
+    networks: Networks,
+) -> io::Result<()> {
+    show_place(rt, place)?;
+    show_place(rt, other)?;
+    println!(rt; " {networks:?}")
+}
+
+fn show_stray(rt: &HostRuntime, stray: &StrayNext) -> io::Result<()> {
     print!(rt; "line {} stray", stray.line)?;
     show_place(rt, &stray.place)?;
-    println!(rt; " {} {:?}", stray.next, stray.networks)?;
-    Ok(())
+    println!(rt; " {} {:?}", stray.next, stray.networks)
 }

@@ -3,7 +3,7 @@
 use crate::diagrams::pieces;
 use crate::text::{cube, print_all};
 use cube_alg::Stamp;
-use cube_diagram::Diagrams;
+use cube_diagram::{Diagrams, ValuePair};
 use indexmap::{IndexMap, IndexSet};
 use test_stop::Stop;
 
@@ -100,10 +100,18 @@ fn show_images(rt: &HostRuntime, d: &mut Diagrams) -> Result<(), Stop> {
 
 // The list and the value 9 for 000000** give the pair of 9 and 9 in three headers, and of 7 and 9 in one.
 fn show_pairs(rt: &HostRuntime, d: &mut Diagrams) -> Result<(), Stop> {
+    let mut pairs = IndexSet::new(rt.alloc());
+    show_paired(rt, d, &mut pairs)
+}
+
+fn show_paired(
+    rt: &HostRuntime,
+    d: &mut Diagrams,
+    pairs: &mut IndexSet<ValuePair>,
+) -> Result<(), Stop> {
     let list = d.first_match(&pieces())?;
     let four = d.add_entry(&[cube("000000**")], 9)?;
-    let mut pairs = IndexSet::new(rt.alloc());
-    let both = d.paired(rt.alloc(), list, four, &mut pairs)?;
+    let both = d.paired(rt.alloc(), list, four, pairs)?;
     let number = d.lookup(both, &cube("00000001").least());
     let outside = d.lookup(both, &cube("1*******").least());
     for pair in pairs.iter() {
@@ -116,9 +124,11 @@ fn show_pairs(rt: &HostRuntime, d: &mut Diagrams) -> Result<(), Stop> {
 // A copy in another table is the function that is made there.
 fn show_copies(rt: &HostRuntime, d: &mut Diagrams, other: &mut Diagrams) -> Result<(), Stop> {
     let list = d.first_match(&pieces())?;
-    let mut known = IndexMap::new(rt.alloc());
-    let copy = other.copy_from(d, list, &mut known)?;
     let made = other.first_match(&pieces())?;
+    let copy = {
+        let mut known = IndexMap::new(rt.alloc());
+        other.copy_from(d, list, &mut known)
+    }?;
     print_all(rt, &[("copied", other.same(copy, made))])
 }
 
@@ -129,10 +139,8 @@ fn show_absorbed(rt: &HostRuntime, d: &mut Diagrams, other: &mut Diagrams) -> Re
     let four = other.add_entry(&[cube("000000**")], 7)?;
     let made = other.first_of(&[one, four])?;
     let numbers = other.absorb(d, &[0, 1, 2, 3, 4, 5, 6, 9, 8, 7])?;
-    let same = match numbers.get(list as usize) {
-        Some(number) => other.same(*number, made),
-        None => false,
-    };
+    let number = numbers.get(list as usize).copied();
+    let same = number.is_some_and(|number| other.same(number, made));
     print_all(rt, &[("taken over with other values", same)])
 }
 

@@ -99,8 +99,13 @@ fn show_case(rt: &HostRuntime, d: &mut Diagrams, case: &Case) -> Result<(), Stop
 fn show_set(rt: &HostRuntime, d: &Diagrams, one: &ValueSet) -> Result<(), Stop>
     requires { one.now.set < count_of d.now }
 {
-    for row in d.rows(rt.alloc(), one.set)?.iter() {
-        println!(rt; "  {} {}", one.value, digits(rt.alloc(), &row.cube)?)?;
+    let rows = d.rows(rt.alloc(), one.set)?;
+    show_rows(rt, one.value, &rows)
+}
+
+fn show_rows(rt: &HostRuntime, value: u32, rows: &[Piece]) -> Result<(), Stop> {
+    for row in rows {
+        println!(rt; "  {value} {}", digits(rt.alloc(), &row.cube)?)?;
     }
     Ok(())
 }

@@ -2,7 +2,7 @@
 
 ghost use Rattle.std.specs.Prelude.{◌≡◌};
 ghost use Rattle.indexmap.specs.IndexMap.{get};
-ghost use Rattle.net_forms.specs.Pairs.{ArePreparedParts};
+ghost use Rattle.net_forms.specs.Pairs.{AreBothForms, ArePreparedParts};
 ghost use Rattle.net_types.specs.World.{same_place};
 ghost use Rattle.net_view.specs.Borrowed.{world_of};
 ghost use Rattle.place_ways.specs.Places.{ArePlaceWays};
@@ -31,7 +31,11 @@ pub(crate) fn ask_visitors(
         prepared: &prepared,
         ttl,
     };
-    let compiled = Prepared::of(alloc, networks)?;
+    ask_compiled(opinion, networks)
+}
+
+fn ask_compiled(opinion: Opinion, networks: Networks) -> Result<Counted, NoMemory> {
+    let compiled = Prepared::of(opinion.alloc, networks)?;
     ask_parts(opinion, compiled.into_parts())
 }
 
@@ -48,17 +52,22 @@ fn ask_parts(opinion: Opinion, parts: PreparedParts) -> Result<Counted, NoMemory
         mut diagrams,
         fates,
     } = tables;
-    // All headers are asked, so they are the scope.
-    let scope = diagrams.everything();
     let forms = BothForms {
         fates: &fates,
         old: &old,
         new: &new,
         like: &like,
     };
-    let ways = ways_of_both(opinion.alloc, forms, scope, &mut diagrams)?;
-    let counted = ask_ways(opinion, &mut diagrams, old.world, scope, &ways)?;
-    Ok(counted)
+    ask_forms(opinion, &mut diagrams, forms)
+}
+
+fn ask_forms(opinion: Opinion, table: &mut Diagrams, forms: BothForms) -> Result<Counted, NoMemory>
+    requires { AreBothForms table.old forms }
+{
+    // All headers are asked, so they are the scope.
+    let scope = table.everything();
+    let ways = ways_of_both(opinion.alloc, forms, scope, table)?;
+    ask_ways(opinion, table, forms.old.world, scope, &ways)
 }
 
 fn ask_ways(

@@ -1,12 +1,11 @@
 //! How many headers visit other devices by walks of sets than by the region of each header alone.
 
 use crate::edges::{TURNS, edge, has, starts};
-use crate::networks::INGRESS;
-use crate::tables::cube_of;
+use crate::regions::graph_of;
 use cube_diagram::Diagrams;
 use hdr_bits::Header;
 use net_types::NoMemory;
-use region_walk::{Explored, explore};
+use region_walk::Graph;
 use set_walk::DeviceVisitors;
 use std::alloc::Global;
 use transfer_rel::{Prepared, Version};
@@ -66,33 +65,50 @@ impl<'a> Opinion<'a> {
     ) -> Result<Counted, NoMemory> {
         let mut counted = Counted::none();
         for one in visitors {
-            for start in &starts(self.alloc, table, one.headers)? {
-                for turn in 0..TURNS {
-                    let header = edge(start, turn);
-                    let second = comes_to(table, visitors, 1, &header);
-                    counted.add(self.are_same(table, visitors, &header), second);
-                }
-            }
+            let starts = starts(self.alloc, table, one.headers)?;
+            self.count_at(table, visitors, &starts, &mut counted);
         }
         Ok(counted)
     }
 
+    // Counts the headers at the edges of one set, which begin with these.
+    fn count_at(
+        &self,
+        table: &Diagrams,
+        visitors: &[DeviceVisitors],
+        starts: &[Header],
+        counted: &mut Counted,
+    ) {
+        for start in starts {
+            for turn in 0..TURNS {
+                let header = edge(start, turn);
+                let second = comes_to(table, visitors, 1, &header);
+                counted.add(self.are_same(table, visitors, &header), second);
+            }
+        }
+    }
+
     // Whether the walk of the region of this header alone comes to the same devices.
     fn are_same(&self, table: &Diagrams, visitors: &[DeviceVisitors], header: &Header) -> bool {
-        let Some(cube) = cube_of(header, 0) else {
-            return false;
-        };
-        match explore(self.alloc, self.prepared, Version::Old, INGRESS, &cube) {
-            Ok(Explored::Whole { graph }) => {
-                let mut same = true;
-                for device in 0..DEVICES {
-                    let found = comes_to(table, visitors, device, header);
-                    same &= found == graph.visits(self.ttl, device);
-                }
-                same
-            }
-            _ => false,
+        match graph_of(self.alloc, self.prepared, Version::Old, header) {
+            Some(graph) => self.visits_same(table, visitors, header, &graph),
+            None => false,
         }
+    }
+
+    fn visits_same(
+        &self,
+        table: &Diagrams,
+        visitors: &[DeviceVisitors],
+        header: &Header,
+        graph: &Graph,
+    ) -> bool {
+        let mut same = true;
+        for device in 0..DEVICES {
+            let found = comes_to(table, visitors, device, header);
+            same &= found == graph.visits(self.ttl, device);
+        }
+        same
     }
 }
 

@@ -29,14 +29,24 @@ pub(crate) fn add_routes(
     number: u64,
 ) -> Result<(), NoMemory> {
     let hops = addresses(alloc, network.devices.as_slice())?;
-    let mut draws = Draws { state: number };
     let mut devices = mem::replace(&mut network.devices, List::empty(alloc)).into_vec();
-    for device in &mut devices {
-        for _turn in 0..ROUTES {
-            device.config.routes.push(drawn_route(&mut draws, &hops))?;
-        }
-    }
+    let added = add_to_all(&mut devices, &hops, number);
     network.devices = List::new(devices);
+    added
+}
+
+fn add_to_all(devices: &mut [NetDevice], hops: &[u32], number: u64) -> Result<(), NoMemory> {
+    let mut draws = Draws { state: number };
+    for device in devices {
+        add_to_one(&mut device.config.routes, &mut draws, hops)?;
+    }
+    Ok(())
+}
+
+fn add_to_one(routes: &mut List<Route>, draws: &mut Draws, hops: &[u32]) -> Result<(), NoMemory> {
+    for _turn in 0..ROUTES {
+        routes.push(drawn_route(draws, hops))?;
+    }
     Ok(())
 }
 

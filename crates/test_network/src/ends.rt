@@ -1,11 +1,12 @@
 //! Where a header may end, and whether it loops, by its graph.
 
-use crate::networks::{INGRESS, Networks, Plan, at};
-use crate::tables::{cube_of, ip, web};
+use crate::cases::{NetworkCase, show_all};
+use crate::networks::{Plan, at};
+use crate::regions::graph_of;
+use crate::tables::{ip, web};
 use hdr_bits::Header;
 use net_types::{NoMemory, Place};
-use net_view::WorldRef;
-use region_walk::{Explored, Graph, explore};
+use region_walk::Graph;
 use std::alloc::Global;
 use std::io;
 use transfer_rel::{Prepared, Version};
@@ -78,46 +79,30 @@ pub(crate) fn show(rt: &HostRuntime) -> io::Result<()> {
             at(1, 1),
         ),
     ];
-    for case in &cases {
-        show_case(rt, case)?;
+    show_all(rt, &cases)
+}
+
+impl NetworkCase for Case {
+    fn plan(&self) -> Plan {
+        self.plan
     }
-    Ok(())
-}
 
-fn show_case(rt: &HostRuntime, case: &Case) -> io::Result<()> {
-    match Networks::of(rt.alloc(), case.plan) {
-        Some(networks) => show_world(rt, case, networks.old()),
-        None => println!(rt; "no network"),
-    }
-}
-
-fn show_world(rt: &HostRuntime, case: &Case, world: WorldRef) -> io::Result<()> {
-    let Some(found) = by_graph(rt.alloc(), case, world) else {
-        return println!(rt; "no graph");
-    };
-    let name = case.name;
-    let ends = found.ends;
-    let loops = found.loops;
-    println!(rt; "{name}: ends there {ends:?}, loops {loops:?}")
-}
-
-// By the graph of this header alone.
-fn by_graph(alloc: Global, case: &Case, world: WorldRef) -> Option<Answers> {
-    let networks = net_forms::Networks {
-        old: world,
-        new: world,
-    };
-    match Prepared::of(alloc, networks) {
-        Ok(prepared) => explored(alloc, case, &prepared),
-        Err(_) => None,
+    fn show_in(&self, rt: &HostRuntime, prepared: &Prepared) -> io::Result<()> {
+        let Some(found) = by_graph(rt.alloc(), self, prepared) else {
+            return println!(rt; "no graph");
+        };
+        let name = self.name;
+        let ends = found.ends;
+        let loops = found.loops;
+        println!(rt; "{name}: ends there {ends:?}, loops {loops:?}")
     }
 }
 
-fn explored(alloc: Global, case: &Case, prepared: &Prepared) -> Option<Answers> {
-    let cube = cube_of(&case.header, 0)?;
-    match explore(alloc, prepared, Version::Old, INGRESS, &cube) {
-        Ok(Explored::Whole { graph }) => under_each(alloc, case, &graph).ok(),
-        _ => None,
+// By the graph of this header alone, in the old network.
+fn by_graph(alloc: Global, case: &Case, prepared: &Prepared) -> Option<Answers> {
+    match graph_of(alloc, prepared, Version::Old, &case.header) {
+        Some(graph) => under_each(alloc, case, &graph).ok(),
+        None => None,
     }
 }
 

@@ -1,6 +1,7 @@
 //! The labels of headers, and into how many regions the cubes round them fall.
 
-use crate::networks::{INGRESS, Networks, Plan, at};
+use crate::cases::{NetworkCase, show_all};
+use crate::networks::{Plan, at};
 use crate::regions::{Walks, Wanted};
 use crate::tables::{cube_of, ip, web};
 use hdr_bits::Header;
@@ -55,14 +56,7 @@ pub(crate) fn show(rt: &HostRuntime) -> io::Result<()> {
     show_all(rt, &fan_cases())?;
     show_all(rt, &circle_cases())?;
     show_all(rt, &lan_cases())?;
-    show_case(rt, &chain_case())
-}
-
-fn show_all(rt: &HostRuntime, cases: &[Case]) -> io::Result<()> {
-    for case in cases {
-        show_case(rt, case)?;
-    }
-    Ok(())
+    show_all(rt, &[chain_case()])
 }
 
 // A web request of the host 10.0.0.9 in the old network.
@@ -207,29 +201,18 @@ fn chain_case() -> Case {
     )
 }
 
-fn show_case(rt: &HostRuntime, case: &Case) -> io::Result<()> {
-    match Networks::of(rt.alloc(), case.plan) {
-        Some(networks) => show_networks(rt, case, &networks),
-        None => println!(rt; "no network"),
+impl NetworkCase for Case {
+    fn plan(&self) -> Plan {
+        self.plan
     }
-}
 
-fn show_networks(rt: &HostRuntime, case: &Case, networks: &Networks) -> io::Result<()> {
-    let both = net_forms::Networks {
-        old: networks.old(),
-        new: networks.new(),
-    };
-    match Prepared::of(rt.alloc(), both) {
-        Ok(prepared) => show_regions(
-            rt,
-            case,
-            Walks {
-                alloc: rt.alloc(),
-                prepared: &prepared,
-                version: case.version,
-            },
-        ),
-        Err(_) => println!(rt; "no memory"),
+    fn show_in(&self, rt: &HostRuntime, prepared: &Prepared) -> io::Result<()> {
+        let walks = Walks {
+            alloc: rt.alloc(),
+            prepared,
+            version: self.version,
+        };
+        show_regions(rt, self, walks)
     }
 }
 

@@ -5,6 +5,7 @@
 
 mod alike;
 mod asking;
+mod cases;
 mod counting;
 mod drawn;
 mod edges;

@@ -1,6 +1,7 @@
 //! The moves of single headers, as the list of a place has them.
 
-use crate::networks::{Networks, Plan, at};
+use crate::cases::{NetworkCase, show_all};
+use crate::networks::{Plan, at};
 use crate::tables::{ip, secure, web};
 use device_transfers::Transfer;
 use hdr_bits::Header;
@@ -32,15 +33,6 @@ pub(crate) fn show(rt: &HostRuntime) -> io::Result<()> {
     show_all(rt, &translated_cases())?;
     show_all(rt, &office_cases())?;
     show_all(rt, &outer_cases())
-}
-
-fn show_all(rt: &HostRuntime, cases: &[Case]) -> io::Result<()> {
-    for case in cases {
-        let name = case.name;
-        println!(rt; "{name}:")?;
-        show_case(rt, case)?;
-    }
-    Ok(())
 }
 
 // Where nothing is translated.
@@ -134,25 +126,19 @@ fn outer_cases() -> [Case; 4] {
     ]
 }
 
-fn show_case(rt: &HostRuntime, case: &Case) -> io::Result<()> {
-    match Networks::of(rt.alloc(), case.plan) {
-        Some(networks) => show_networks(rt, case, &networks),
-        None => println!(rt; "  no network"),
+impl NetworkCase for Case {
+    fn plan(&self) -> Plan {
+        self.plan
+    }
+
+    fn show_in(&self, rt: &HostRuntime, prepared: &Prepared) -> io::Result<()> {
+        let name = self.name;
+        println!(rt; "{name}:")?;
+        show_arriving(rt, self, prepared)
     }
 }
 
-fn show_networks(rt: &HostRuntime, case: &Case, networks: &Networks) -> io::Result<()> {
-    let both = net_forms::Networks {
-        old: networks.old(),
-        new: networks.new(),
-    };
-    match Prepared::of(rt.alloc(), both) {
-        Ok(prepared) => show_prepared(rt, case, &prepared),
-        Err(_) => println!(rt; "  no memory"),
-    }
-}
-
-fn show_prepared(rt: &HostRuntime, case: &Case, prepared: &Prepared) -> io::Result<()> {
+fn show_arriving(rt: &HostRuntime, case: &Case, prepared: &Prepared) -> io::Result<()> {
     match Transfer::of(rt.alloc(), prepared, Version::Old, case.place) {
         Ok(transfer) => show_transfer(rt, case, &transfer),
         Err(_) => println!(rt; "  no memory"),

@@ -91,9 +91,9 @@ pub(crate) struct Networks {
 impl Networks {
     /// The networks of the plan, where their configurations are read.
     pub(crate) fn of(alloc: Global, plan: Plan) -> Option<Networks> {
-        match network(alloc, plan.old()) {
-            Some(old) => with_new(alloc, plan, old),
-            None => None,
+        match links(alloc, plan) {
+            Ok(links) => with_links(alloc, plan, links),
+            Err(_) => None,
         }
     }
 
@@ -102,6 +102,14 @@ impl Networks {
         let mut networks = Networks::of(alloc, plan)?;
         add_routes(alloc, &mut networks.old, number).ok()?;
         Some(networks)
+    }
+
+    /// Both, to be compiled together.
+    pub(crate) fn both(&self) -> net_forms::Networks<'_> {
+        net_forms::Networks {
+            old: self.old(),
+            new: self.new(),
+        }
     }
 
     pub(crate) fn old(&self) -> WorldRef<'_> {
@@ -119,24 +127,17 @@ impl Networks {
     }
 }
 
-fn with_new(alloc: Global, plan: Plan, old: Network) -> Option<Networks> {
-    match network(alloc, plan.new()) {
-        Some(new) => with_links(alloc, plan, old, new),
+fn with_links(alloc: Global, plan: Plan, links: Links) -> Option<Networks> {
+    match network(alloc, plan.old()) {
+        Some(old) => with_old(alloc, plan, links, old),
         None => None,
     }
 }
 
-fn with_links(alloc: Global, plan: Plan, old: Network, new: Network) -> Option<Networks> {
-    match segments(alloc, plan) {
-        Ok(segments) => Some(Networks {
-            old,
-            new,
-            links: Links {
-                segments,
-                ingress: List::empty(alloc),
-            },
-        }),
-        Err(_) => None,
+fn with_old(alloc: Global, plan: Plan, links: Links, old: Network) -> Option<Networks> {
+    match network(alloc, plan.new()) {
+        Some(new) => Some(Networks { old, new, links }),
+        None => None,
     }
 }
 
@@ -194,10 +195,13 @@ fn numbers(alloc: Global, count: usize) -> Result<List<u32>, NoMemory> {
     Ok(numbers)
 }
 
-fn segments(alloc: Global, plan: Plan) -> Result<List<Segment>, NoMemory> {
+fn links(alloc: Global, plan: Plan) -> Result<Links, NoMemory> {
     let mut segments = List::empty(alloc);
     add_segments(alloc, &mut segments, plan)?;
-    Ok(segments)
+    Ok(Links {
+        segments,
+        ingress: List::empty(alloc),
+    })
 }
 
 fn add_segments(alloc: Global, segments: &mut List<Segment>, plan: Plan) -> Result<(), NoMemory> {

@@ -4,7 +4,7 @@ use crate::networks::INGRESS;
 use crate::tables::cube_of;
 use hdr_bits::{Cube, Header};
 use net_types::Outcome;
-use region_walk::{Explored, explore};
+use region_walk::{Explored, Graph, explore};
 use std::alloc::Global;
 use transfer_rel::{Prepared, Version};
 
@@ -17,12 +17,34 @@ pub(crate) struct Wanted {
 }
 
 impl Wanted {
+    // Whether the headers of the graph have these outcomes.
+    fn is_label_of(&self, alloc: Global, graph: &Graph) -> bool {
+        match graph.label(alloc, self.ttl.max(1)) {
+            Ok(label) => self.is(label.as_slice()),
+            Err(_) => false,
+        }
+    }
+
     fn is(&self, outcomes: &[Outcome]) -> bool {
         match outcomes {
             [first] => *first == self.first && self.second.is_none(),
             [first, second] => *first == self.first && self.second == Some(*second),
             _ => false,
         }
+    }
+}
+
+/// The graph of the header alone. Nothing where there was no memory.
+pub(crate) fn graph_of<'a>(
+    alloc: Global,
+    prepared: &'a Prepared<'a>,
+    version: Version,
+    header: &Header,
+) -> Option<Graph<'a>> {
+    let cube = cube_of(header, 0)?;
+    match explore(alloc, prepared, version, INGRESS, &cube) {
+        Ok(Explored::Whole { graph }) => Some(graph),
+        _ => None,
     }
 }
 
@@ -37,15 +59,9 @@ pub(crate) struct Walks<'a> {
 impl<'a> Walks<'a> {
     /// Whether the header has this label.
     pub(crate) fn has_label(&self, header: &Header, wanted: Wanted) -> bool {
-        let Some(cube) = cube_of(header, 0) else {
-            return false;
-        };
-        match explore(self.alloc, self.prepared, self.version, INGRESS, &cube) {
-            Ok(Explored::Whole { graph }) => match graph.label(self.alloc, wanted.ttl.max(1)) {
-                Ok(label) => wanted.is(label.as_slice()),
-                Err(_) => false,
-            },
-            _ => false,
+        match graph_of(self.alloc, self.prepared, self.version, header) {
+            Some(graph) => wanted.is_label_of(self.alloc, &graph),
+            None => false,
         }
     }
 
@@ -67,12 +83,14 @@ impl<'a> Walks<'a> {
         let cube = cubes.pop()?;
         match explore(self.alloc, self.prepared, self.version, INGRESS, &cube) {
             Ok(Explored::Whole { graph: _ }) => Some(1),
-            Ok(Explored::Halves { low, high }) => {
-                cubes.push(high).ok()?;
-                cubes.push(low).ok()?;
-                Some(0)
-            }
+            Ok(Explored::Halves { low, high }) => add_halves(cubes, low, high),
             Err(_) => None,
         }
     }
+}
+
+fn add_halves(cubes: &mut Vec<Cube>, low: Cube, high: Cube) -> Option<u32> {
+    cubes.push(high).ok()?;
+    cubes.push(low).ok()?;
+    Some(0)
 }

@@ -55,11 +55,7 @@ fn all_drawn(alloc: Global, plan: Plan) -> Result<Counted, NoMemory> {
 fn visits(alloc: Global, networks: &Networks) -> Result<Counted, NoMemory> {
     let mut all = Counted::none();
     for ttl in TTLS {
-        let both = net_forms::Networks {
-            old: networks.old(),
-            new: networks.new(),
-        };
-        all = all.with(&ask_visitors(alloc, both, ttl)?);
+        all = all.with(&ask_visitors(alloc, networks.both(), ttl)?);
     }
     Ok(all)
 }

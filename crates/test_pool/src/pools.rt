@@ -1,5 +1,7 @@
 //! Pools of workers, by the leaves that they find.
 
+ghost use Rattle.std.specs.Prelude.{◌<◌, ◌^◌, length};
+
 use crate::gates::{Late, Meeting, Relay};
 use crate::splitters::{Nothing, Slots, Stingy};
 use chunk_rope::Rope;
@@ -9,24 +11,22 @@ use std::alloc::Global;
 use std::sync::Wait;
 use std::sync::atomic::AtomicU64;
 use std::thread::Threads;
-use steal_pool::{OpenGate, Workers, roots_of, run};
+use steal_pool::{Gate, OpenGate, Splitter, Workers, roots_of, run};
 use task_board::Leaf;
 
 /// Two roots that are each a leaf, for two workers, each of which waits for the other at the gate.
 pub fn met<R: Threads + Wait + Sync>(rt: &R, alloc: Global) -> Result<String, NoMemory> {
-    let roots = roots_of(alloc, &[Cube::all(), Cube::all()])?;
     let gate = Meeting::new();
     let two = Workers {
         rt,
         gate: &gate,
         count: 2,
     };
-    let leaves = run(&two, alloc, roots.as_slice(), Slots { depth: 0 })?;
+    let roots = [Cube::all(), Cube::all()];
+    let Found { leaves, wrong } = find(&two, alloc, &roots, Slots { depth: 0 })?;
+    let (passed, gave_up) = (gate.noted(), gate.gave_up());
     let text = format!(in alloc;
-        "{} passed, {} gave up, {}",
-        gate.noted(),
-        gate.gave_up(),
-        counted(alloc, leaves)?
+        "{passed} passed, {gave_up} gave up, {leaves} leaves, {wrong} wrong"
     )?;
     Ok(text)
 }
@@ -34,19 +34,16 @@ pub fn met<R: Threads + Wait + Sync>(rt: &R, alloc: Global) -> Result<String, No
 /// One root in 512 parts, for two workers. The first turn leaves parts open in one lane, and the task that passes next
 /// waits for the other worker to steal one.
 pub fn shared<R: Threads + Wait + Sync>(rt: &R, alloc: Global) -> Result<String, NoMemory> {
-    let roots = roots_of(alloc, &[Cube::all()])?;
     let gate = Relay::new();
     let two = Workers {
         rt,
         gate: &gate,
         count: 2,
     };
-    let leaves = run(&two, alloc, roots.as_slice(), Slots { depth: 9 })?;
+    let Found { leaves, wrong } = find(&two, alloc, &[Cube::all()], Slots { depth: 9 })?;
+    let (passed, gave_up) = (gate.passed(), gate.gave_up());
     let text = format!(in alloc;
-        "{} passed, {} gave up, {}",
-        gate.passed(),
-        gate.gave_up(),
-        counted(alloc, leaves)?
+        "{passed} passed, {gave_up} gave up, {leaves} leaves, {wrong} wrong"
     )?;
     Ok(text)
 }
@@ -58,10 +55,8 @@ pub fn nothing<R: Threads + Wait + Sync>(
     workers: u32,
 ) -> Result<String, NoMemory> {
     let by = free(rt, workers);
-    let roots = roots_of(alloc, &[Cube::all()])?;
-    let leaves = run(&by, alloc, roots.as_slice(), Nothing)?;
-    let text = format!(in alloc; "by {} workers {}", by.count, counted(alloc, leaves)?)?;
-    Ok(text)
+    let found = find(&by, alloc, &[Cube::all()], Nothing)?;
+    by_workers(alloc, by.count, found)
 }
 
 /// So many roots, each in 2 to the `depth` parts.
@@ -73,11 +68,8 @@ pub fn divided<R: Threads + Wait + Sync>(
     depth: u32,
 ) -> Result<String, NoMemory> {
     let by = free(rt, workers);
-    let cubes = vec![in alloc; Cube::all(); usize::from(roots)]?;
-    let roots = roots_of(alloc, cubes.as_slice())?;
-    let leaves = run(&by, alloc, roots.as_slice(), Slots { depth })?;
-    let text = format!(in alloc; "by {} workers {}", by.count, counted(alloc, leaves)?)?;
-    Ok(text)
+    let found = find_in(&by, alloc, roots, depth)?;
+    by_workers(alloc, by.count, found)
 }
 
 /// Two roots that are each a leaf, where the first calls of work are refused.
@@ -91,9 +83,9 @@ pub fn refused<R: Threads + Wait + Sync>(
         calls: &calls,
         refused,
     };
-    let roots = roots_of(alloc, &[Cube::all(), Cube::all()])?;
-    let leaves = run(&free(rt, 2), alloc, roots.as_slice(), splitter)?;
-    let text = format!(in alloc; "{refused} times {}", counted(alloc, leaves)?)?;
+    let roots = [Cube::all(), Cube::all()];
+    let Found { leaves, wrong } = find(&free(rt, 2), alloc, &roots, splitter)?;
+    let text = format!(in alloc; "{refused} times {leaves} leaves, {wrong} wrong")?;
     Ok(text)
 }
 
@@ -119,15 +111,11 @@ pub fn kept_back<R: Threads + Wait + Sync>(
         gate: &gate,
         count: workers.clamp(1, 64),
     };
-    let cubes = vec![in alloc; Cube::all(); usize::from(kept.roots)]?;
-    let roots = roots_of(alloc, cubes.as_slice())?;
-    let leaves = run(&by, alloc, roots.as_slice(), Slots { depth: kept.depth })?;
+    let Found { leaves, wrong } = find_in(&by, alloc, kept.roots, kept.depth)?;
+    let Kept { roots, ticket, .. } = kept;
+    let count = by.count;
     let text = format!(in alloc;
-        "ticket {} of {} by {} workers {}",
-        kept.ticket,
-        kept.roots,
-        by.count,
-        counted(alloc, leaves)?
+        "ticket {ticket} of {roots} by {count} workers {leaves} leaves, {wrong} wrong"
     )?;
     Ok(text)
 }
@@ -150,10 +138,8 @@ pub fn kept_and_refused<R: Threads + Wait + Sync>(
         gate: &gate,
         count: workers.clamp(1, 64),
     };
-    let roots = roots_of(alloc, &[Cube::all()])?;
-    let leaves = run(&by, alloc, roots.as_slice(), splitter)?;
-    let text = format!(in alloc; "by {} workers {}", by.count, counted(alloc, leaves)?)?;
-    Ok(text)
+    let found = find(&by, alloc, &[Cube::all()], splitter)?;
+    by_workers(alloc, by.count, found)
 }
 
 // So many workers, or the nearest number that there may be, whose gate is open.
@@ -165,8 +151,39 @@ fn free<'a, R>(rt: &'a R, count: u32) -> Workers<'a, R, OpenGate> {
     }
 }
 
-// How many leaves there are, and how many of them have another value than their slot.
-fn counted(alloc: Global, leaves: Rope<Leaf<u64>>) -> Result<String, NoMemory> {
+/// How many leaves there are, and how many of them have another value than their slot.
+#[derive(Clone, Copy)]
+struct Found {
+    leaves: u64,
+    wrong: u64,
+}
+
+// What the workers find in so many roots, each in 2 to the `depth` parts.
+fn find_in<G: Gate + Sync, R: Threads + Wait + Sync>(
+    by: &Workers<R, G>,
+    alloc: Global,
+    roots: u16,
+    depth: u32,
+) -> Result<Found, NoMemory> {
+    let cubes = vec![in alloc; Cube::all(); usize::from(roots)]?;
+    find(by, alloc, cubes.as_slice(), Slots { depth })
+}
+
+// What the workers find in roots of these cubes.
+fn find<S: Splitter<Value = u64> + Send + Sync, G: Gate + Sync, R: Threads + Wait + Sync>(
+    by: &Workers<R, G>,
+    alloc: Global,
+    cubes: &[Cube],
+    splitter: S,
+) -> Result<Found, NoMemory>
+    requires { length cubes.now < 2 ^ 32 }
+{
+    let roots = roots_of(alloc, cubes)?;
+    let leaves = run(by, alloc, roots.as_slice(), splitter)?;
+    Ok(counted(&leaves))
+}
+
+fn counted(leaves: &Rope<Leaf<u64>>) -> Found {
     let mut count: u64 = 0;
     let mut wrong: u64 = 0;
     for leaf in leaves.cursor() {
@@ -175,6 +192,14 @@ fn counted(alloc: Global, leaves: Rope<Leaf<u64>>) -> Result<String, NoMemory> {
             wrong = wrong.saturating_add(1);
         }
     }
-    let text = format!(in alloc; "{count} leaves, {wrong} wrong")?;
+    Found {
+        leaves: count,
+        wrong,
+    }
+}
+
+fn by_workers(alloc: Global, count: u32, found: Found) -> Result<String, NoMemory> {
+    let Found { leaves, wrong } = found;
+    let text = format!(in alloc; "by {count} workers {leaves} leaves, {wrong} wrong")?;
     Ok(text)
 }

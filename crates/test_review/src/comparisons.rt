@@ -2,7 +2,7 @@
 //! always the folders `old` and `new`, and a comparison gives the same by 1, 4 and 64 workers. The cases of the file `commands`
 //! have, besides their files, the command lines that are run over them, each behind `$ ` and with a blank between words.
 
-use crate::runs::{COMPARE, Finished, ran, show_line, show_ran};
+use crate::runs::{COMPARE, Finished, files_with, ran, show_line, show_ran};
 use net_io::MemFiles;
 use std::alloc::Global;
 use std::fs;
@@ -27,16 +27,45 @@ fn show_case<R: Threads + Wait + Sync>(
     let (name, given) = case.split_once('\n').unwrap_or((case, ""));
     println!(rt; "== {name}")?;
     let mut files = files_of(rt.alloc(), given)?;
-    let by_four = ran(rt.alloc(), threads, &mut files, &COMPARE, 10_000, &OpenGate)?;
-    show_ran(rt, &by_four)?;
+    show_comparison(rt, threads, &mut files)
+}
+
+fn show_comparison<R: Threads + Wait + Sync>(
+    rt: &HostRuntime,
+    threads: &R,
+    files: &mut MemFiles,
+) -> Result<(), Stop> {
+    let by_four = ran(rt.alloc(), threads, files, &COMPARE, 10_000, &OpenGate)?;
+    show_by_workers(rt, threads, files, &by_four)
+}
+
+// What four workers gave, and whether others give the same.
+fn show_by_workers<R: Threads + Wait + Sync>(
+    rt: &HostRuntime,
+    threads: &R,
+    files: &mut MemFiles,
+    by_four: &Finished,
+) -> Result<(), Stop> {
+    show_ran(rt, by_four)?;
     for workers in ["1", "64"] {
         let words = ["compare", "old", "new", "links", "--workers", workers];
-        let by_others = ran(rt.alloc(), threads, &mut files, &words, 10_000, &OpenGate)?;
-        if !are_equal(&by_four, &by_others) {
+        if !gives(rt.alloc(), threads, files, &words, by_four)? {
             println!(rt; "something else by {workers} workers")?;
         }
     }
     Ok(())
+}
+
+// Whether the words give the same.
+fn gives<R: Threads + Wait + Sync>(
+    alloc: Global,
+    threads: &R,
+    files: &mut MemFiles,
+    words: &[&str],
+    wanted: &Finished,
+) -> Result<bool, Stop> {
+    let ran = ran(alloc, threads, files, words, 10_000, &OpenGate)?;
+    Ok(are_equal(wanted, &ran))
 }
 
 fn are_equal(one: &Finished, other: &Finished) -> bool {
@@ -73,9 +102,7 @@ fn show_commands_of<R: Threads + Wait + Sync>(
 }
 
 fn files_of(alloc: Global, given: &str) -> Result<MemFiles, Stop> {
-    let mut files = MemFiles::new(alloc)?;
-    files.folder("old")?;
-    files.folder("new")?;
+    let mut files = files_with(alloc, &[("old/", b""), ("new/", b"")])?;
     for file in given.split("-- ").skip(1) {
         put(&mut files, file)?;
     }

@@ -1,6 +1,7 @@
 //! Words that are no command, outputs without room, and reads that fail.
 
 use crate::runs::{COMPARE, INGRESS_SHUT, TWO_LINKS, one_each, show_run};
+use net_io::MemFiles;
 use std::sync::Wait;
 use std::thread::Threads;
 use test_stop::Stop;
@@ -21,9 +22,18 @@ pub(crate) fn show_words<R: Threads + Wait + Sync>(
         &["compare", "old", "none", "missing"],
     ];
     let mut files = one_each(rt.alloc(), TWO_LINKS, INGRESS_SHUT)?;
+    show_each(rt, threads, &mut files, &cases)
+}
+
+fn show_each<R: Threads + Wait + Sync>(
+    rt: &HostRuntime,
+    threads: &R,
+    files: &mut MemFiles,
+    cases: &[&[&str]],
+) -> Result<(), Stop> {
     for words in cases {
         println!(rt; "== {words:?}")?;
-        show_run(rt, threads, &mut files, words, 100)?;
+        show_run(rt, threads, files, words, 100)?;
     }
     Ok(())
 }
@@ -33,12 +43,20 @@ pub(crate) fn show_rooms<R: Threads + Wait + Sync>(
     rt: &HostRuntime,
     threads: &R,
 ) -> Result<(), Stop> {
-    let mut files = one_each(rt.alloc(), TWO_LINKS, INGRESS_SHUT)?;
     for room in [0, 100, 532, 533] {
         println!(rt; "== room for {room}")?;
-        show_run(rt, threads, &mut files, &COMPARE, room)?;
+        show_room(rt, threads, room)?;
     }
     Ok(())
+}
+
+fn show_room<R: Threads + Wait + Sync>(
+    rt: &HostRuntime,
+    threads: &R,
+    room: usize,
+) -> Result<(), Stop> {
+    let mut files = one_each(rt.alloc(), TWO_LINKS, INGRESS_SHUT)?;
+    show_run(rt, threads, &mut files, &COMPARE, room)
 }
 
 /// The calls are two listings and two reads of each of three files.

@@ -2,13 +2,14 @@
 
 use crate::causes;
 use crate::filled::Filled;
-use crate::runs::{COMPARE, one_each, status_of};
+use crate::runs::{COMPARE, Outputs, cannot_read, ends, files_with, one_each, ran, ran_with};
 use crate::tally::Tally;
-use net_io::{MemFiles, MemSink};
+use net_io::MemFiles;
 use std::alloc::Global;
 use std::fs;
 use std::sync::Wait;
 use std::thread::Threads;
+use steal_pool::OpenGate;
 use test_stop::Stop;
 
 const LIST: &[u8] = b"hostname R1
@@ -52,15 +53,26 @@ pub(crate) fn show<R: Threads + Wait + Sync>(rt: &HostRuntime, threads: &R) -> R
 
 /// Files that give one byte in a read, and an output that takes one in a write.
 fn show_single_bytes<R: Threads + Wait + Sync>(rt: &HostRuntime, threads: &R) -> Result<(), Stop> {
-    let mut files = one_each(rt.alloc(), LIST, LONGER_LIST)?;
-    files.at_most(1);
-    let mut out = MemSink::new(rt.alloc(), 1000)?;
-    out.at_most(1);
-    let mut err = MemSink::new(rt.alloc(), 0)?;
-    let status = status_of(rt, threads, &mut files, &COMPARE, &mut out, &mut err)?;
     let mut tally = Tally::new();
-    tally.note(status == 1 && out.taken() == REPORT);
+    tally.note(reports_by_bytes(rt.alloc(), threads)?);
     tally.show(rt, "one byte in each call")
+}
+
+fn reports_by_bytes<R: Threads + Wait + Sync>(alloc: Global, threads: &R) -> Result<bool, Stop> {
+    let mut files = one_each(alloc, LIST, LONGER_LIST)?;
+    files.at_most(1);
+    reports_to_bytes(alloc, threads, &mut files)
+}
+
+fn reports_to_bytes<R: Threads + Wait + Sync>(
+    alloc: Global,
+    threads: &R,
+    files: &mut MemFiles,
+) -> Result<bool, Stop> {
+    let mut outputs = Outputs::of(alloc, 1000, 0)?;
+    outputs.out.at_most(1);
+    let ran = ran_with(alloc, threads, files, &COMPARE, outputs, &OpenGate)?;
+    Ok(ran.status == 1 && ran.out.taken() == REPORT)
 }
 
 /// Each call fails in turn, until none does. A read gives at most so many bytes.
@@ -72,9 +84,9 @@ fn show_faults<R: Threads + Wait + Sync>(
     let paths = called_paths(rt.alloc(), most)?;
     let mut tally = Tally::new();
     for call in 0..paths.len() {
-        tally.note(fails_at(rt, threads, most, call as u64, paths[call])?);
+        tally.note(fails_at(rt.alloc(), threads, most, call as u64, paths[call])?);
     }
-    let after = fails_at(rt, threads, most, paths.len() as u64, "")?;
+    let after = fails_at(rt.alloc(), threads, most, paths.len() as u64, "")?;
     println!(rt; "one call more: fails {after}")?;
     tally.show(rt, "the call that fails is named")
 }
@@ -99,48 +111,52 @@ fn called_paths(alloc: Global, most: usize) -> Result<Vec<&'static str>, Stop> {
 
 // Whether the run ends with status 4, names this path and writes nothing.
 fn fails_at<R: Threads + Wait + Sync>(
-    rt: &HostRuntime,
+    alloc: Global,
     threads: &R,
     most: usize,
     call: u64,
     path: &str,
 ) -> Result<bool, Stop> {
-    let mut files = one_each(rt.alloc(), LIST, LONGER_LIST)?;
+    let mut files = one_each(alloc, LIST, LONGER_LIST)?;
     files.at_most(most.max(1));
     files.fail_at(call);
-    let mut out = MemSink::new(rt.alloc(), 1000)?;
-    let mut err = MemSink::new(rt.alloc(), 1000)?;
-    let status = status_of(rt, threads, &mut files, &COMPARE, &mut out, &mut err)?;
-    let line = format!(in rt.alloc(); "cannot read {path}\n")?;
-    Ok(status == 4 && out.taken().is_empty() && err.taken() == line.as_bytes())
+    cannot_read(alloc, threads, &mut files, &COMPARE, path)
 }
 
 /// An output with room for each number of bytes below the report's.
 fn show_rooms<R: Threads + Wait + Sync>(rt: &HostRuntime, threads: &R) -> Result<(), Stop> {
     let mut tally = Tally::new();
     for room in 0..REPORT.len() {
-        let mut files = one_each(rt.alloc(), LIST, LONGER_LIST)?;
-        let mut out = MemSink::new(rt.alloc(), room)?;
-        let mut err = MemSink::new(rt.alloc(), 1000)?;
-        let status = status_of(rt, threads, &mut files, &COMPARE, &mut out, &mut err)?;
-        tally.note(
-            status == 6
-                && out.taken() == &REPORT[..room]
-                && err.taken() == b"cannot write\n".as_slice(),
-        );
+        tally.note(fills(rt.alloc(), threads, &REPORT[..room])?);
     }
     tally.show(rt, "an output with too little room")
 }
 
+// Whether the run takes all the room, where there is room for these bytes, and ends with status 6.
+fn fills<R: Threads + Wait + Sync>(alloc: Global, threads: &R, bytes: &[u8]) -> Result<bool, Stop> {
+    let mut files = one_each(alloc, LIST, LONGER_LIST)?;
+    fills_over(alloc, threads, &mut files, bytes)
+}
+
+fn fills_over<R: Threads + Wait + Sync>(
+    alloc: Global,
+    threads: &R,
+    files: &mut MemFiles,
+    bytes: &[u8],
+) -> Result<bool, Stop> {
+    let ran = ran(alloc, threads, files, &COMPARE, bytes.len(), &OpenGate)?;
+    Ok(
+        ran.status == 6
+            && ran.out.taken() == bytes
+            && ran.err.taken() == b"cannot write\n".as_slice(),
+    )
+}
+
 /// Files that never end.
 fn show_filled<R: Threads + Wait + Sync>(rt: &HostRuntime, threads: &R) -> Result<(), Stop> {
-    let mut out = MemSink::new(rt.alloc(), 1000)?;
-    let mut err = MemSink::new(rt.alloc(), 1000)?;
-    let status = status_of(rt, threads, &mut Filled, &COMPARE, &mut out, &mut err)?;
+    let line = b"too long old/R1.cfg\n";
     let mut tally = Tally::new();
-    tally.note(
-        status == 5 && out.taken().is_empty() && err.taken() == b"too long old/R1.cfg\n".as_slice(),
-    );
+    tally.note(ends(rt.alloc(), threads, &mut Filled, &COMPARE, 5, line)?);
     tally.show(rt, "a file without an end")
 }
 
@@ -149,25 +165,44 @@ fn show_no_error_output<R: Threads + Wait + Sync>(
     rt: &HostRuntime,
     threads: &R,
 ) -> Result<(), Stop> {
-    let mut files = one_each(rt.alloc(), b"hostname R1\nrouter ospf 1\n", LIST)?;
-    let mut out = MemSink::new(rt.alloc(), 1000)?;
-    let mut err = MemSink::new(rt.alloc(), 0)?;
-    let status = status_of(rt, threads, &mut files, &COMPARE, &mut out, &mut err)?;
     let mut tally = Tally::new();
-    tally.note(status == 3 && out.taken().is_empty() && err.taken().is_empty());
+    tally.note(refuses_silently(rt.alloc(), threads)?);
     tally.show(rt, "a refusal without an error output")
+}
+
+fn refuses_silently<R: Threads + Wait + Sync>(alloc: Global, threads: &R) -> Result<bool, Stop> {
+    let mut files = one_each(alloc, b"hostname R1\nrouter ospf 1\n", LIST)?;
+    refuses_silently_over(alloc, threads, &mut files)
+}
+
+fn refuses_silently_over<R: Threads + Wait + Sync>(
+    alloc: Global,
+    threads: &R,
+    files: &mut MemFiles,
+) -> Result<bool, Stop> {
+    let outputs = Outputs::of(alloc, 1000, 0)?;
+    let ran = ran_with(alloc, threads, files, &COMPARE, outputs, &OpenGate)?;
+    Ok(ran.status == 3 && ran.out.taken().is_empty() && ran.err.taken().is_empty())
 }
 
 /// The configuration of a usual router, cut after each of its bytes.
 fn show_cuts<R: Threads + Wait + Sync>(rt: &HostRuntime, threads: &R) -> Result<(), Stop> {
     let cases = fs::read_to_string(rt, "comparisons")?;
     let text = usual(cases.as_str()).as_bytes();
-    let mut files = MemFiles::new(rt.alloc())?;
-    files.folder("old")?;
+    let mut files = files_with(rt.alloc(), &[("old/", b"")])?;
+    show_cuts_of(rt, threads, &mut files, text)
+}
+
+fn show_cuts_of<R: Threads + Wait + Sync>(
+    rt: &HostRuntime,
+    threads: &R,
+    files: &mut MemFiles,
+    text: &[u8],
+) -> Result<(), Stop> {
     let mut tally = Tally::new();
     for count in 0..text.len() {
         files.put("old/EDGE.cfg", &text[..count])?;
-        tally.note(reads(rt, threads, &mut files, &text[..count])?);
+        tally.note(reads(rt.alloc(), threads, files, &text[..count])?);
     }
     tally.show(rt, "a text that is cut")
 }
@@ -181,17 +216,17 @@ fn usual(cases: &str) -> &str {
 
 // Whether the text is accepted, or refused at a line that it has.
 fn reads<R: Threads + Wait + Sync>(
-    rt: &HostRuntime,
+    alloc: Global,
     threads: &R,
     files: &mut MemFiles,
     text: &[u8],
 ) -> Result<bool, Stop> {
-    let mut out = MemSink::new(rt.alloc(), 1000)?;
-    let mut err = MemSink::new(rt.alloc(), 1000)?;
-    let status = status_of(rt, threads, files, &["read", "old"], &mut out, &mut err)?;
+    let ran = ran(alloc, threads, files, &["read", "old"], 1000, &OpenGate)?;
+    let (out, err) = (ran.out.taken(), ran.err.taken());
+    let status = ran.status;
     Ok(match status {
-        0 => err.taken().is_empty() && !out.taken().is_empty(),
-        3 => out.taken().is_empty() && names_a_line(err.taken(), text),
+        0 => err.is_empty() && !out.is_empty(),
+        3 => out.is_empty() && names_a_line(err, text),
         _ => false,
     })
 }

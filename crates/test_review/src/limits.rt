@@ -1,6 +1,6 @@
 //! The limits on files and folders, each kept and passed.
 
-use crate::runs::{COMPARE, show_run};
+use crate::runs::{COMPARE, files_with, show_run};
 use net_io::MemFiles;
 use std::alloc::Global;
 use std::sync::Wait;
@@ -9,11 +9,13 @@ use test_stop::Stop;
 
 /// A folder `old` of so many files, each of so many bytes, and a folder `new` with R1 alone.
 fn files_of(alloc: Global, count: usize, size: usize) -> Result<MemFiles, Stop> {
-    let mut files = MemFiles::new(alloc)?;
-    files.folder("old")?;
-    files.folder("new")?;
-    files.put("new/R1.cfg", b"hostname R1\n")?;
-    files.put("links", b"ingress R1 Ethernet0\n")?;
+    let given: [(&str, &[u8]); 4] = [
+        ("old/", b""),
+        ("new/", b""),
+        ("new/R1.cfg", b"hostname R1\n"),
+        ("links", b"ingress R1 Ethernet0\n"),
+    ];
+    let mut files = files_with(alloc, &given)?;
     for i in 0..count {
         put_file(alloc, &mut files, i, size)?;
     }
@@ -46,10 +48,19 @@ pub(crate) fn show<R: Threads + Wait + Sync>(rt: &HostRuntime, threads: &R) -> R
     ];
     for (count, size) in cases {
         println!(rt; "== {count} files of {size} bytes")?;
-        let mut files = files_of(rt.alloc(), count, size)?;
-        show_run(rt, threads, &mut files, &COMPARE, 1_000)?;
+        show_files(rt, threads, count, size)?;
     }
     show_last_file(rt, threads)
+}
+
+fn show_files<R: Threads + Wait + Sync>(
+    rt: &HostRuntime,
+    threads: &R,
+    count: usize,
+    size: usize,
+) -> Result<(), Stop> {
+    let mut files = files_of(rt.alloc(), count, size)?;
+    show_run(rt, threads, &mut files, &COMPARE, 1_000)
 }
 
 /// Four files fill the folder, and a fifth of 12 bytes passes its limit.

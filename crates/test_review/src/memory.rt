@@ -1,6 +1,7 @@
 //! Files and sinks in memory.
 
 use crate::names::listed;
+use crate::runs::files_with;
 use net_io::{MemFiles, MemSink, ReadFail, read_all, write_all};
 use std::alloc::{AllocError, Global};
 use test_stop::Stop;
@@ -44,12 +45,22 @@ pub(crate) fn show_sizes(rt: &HostRuntime) -> Result<(), Stop> {
 }
 
 fn show_size(rt: &HostRuntime, bytes: &[u8]) -> Result<(), Stop> {
-    let mut files = MemFiles::new(rt.alloc())?;
-    files.put("file", bytes)?;
-    let read = read_all(rt.alloc(), &mut files, "file");
-    show_read(rt, read, bytes)?;
-    let read = read_all(rt.alloc(), &mut files, "fil");
-    show_read(rt, read, bytes)
+    let mut files = files_with(rt.alloc(), &[("file", bytes)])?;
+    show_two(rt, &mut files, ["file", "fil"], bytes)
+}
+
+// What a read of each of two paths gives.
+fn show_two(
+    rt: &HostRuntime,
+    files: &mut MemFiles,
+    paths: [&str; 2],
+    bytes: &[u8],
+) -> Result<(), Stop> {
+    for path in paths {
+        let read = read_all(rt.alloc(), files, path);
+        show_read(rt, read, bytes)?;
+    }
+    Ok(())
 }
 
 /// The call of the number fails and no other. Three calls read the bytes, and a fourth finds the end.
@@ -63,33 +74,27 @@ pub(crate) fn show_calls(rt: &HostRuntime) -> Result<(), Stop> {
 }
 
 fn show_call(rt: &HostRuntime, bytes: &[u8], call: u64) -> Result<(), Stop> {
-    let mut files = MemFiles::new(rt.alloc())?;
-    files.put("file", bytes)?;
+    let mut files = files_with(rt.alloc(), &[("file", bytes)])?;
     files.fail_at(9);
     files.fail_at(call);
-    let read = read_all(rt.alloc(), &mut files, "file");
-    show_read(rt, read, bytes)?;
-    let read = read_all(rt.alloc(), &mut files, "file");
-    show_read(rt, read, bytes)
+    show_two(rt, &mut files, ["file", "file"], bytes)
 }
 
 /// A listing has the names of its folder alone, and a later file takes the place of an earlier one.
 pub(crate) fn show_folders(rt: &HostRuntime) -> Result<(), Stop> {
-    let mut files = MemFiles::new(rt.alloc())?;
-    for path in [
-        "net/b.cfg",
-        "net/a.cfg",
-        "net/sub/c.cfg",
-        "other/d.cfg",
-        "netx",
-        "net",
-        "net/a.cfg",
-    ] {
-        files.put(path, path.as_bytes())?;
-    }
-    files.put("net/a.cfg", b"later")?;
-    files.folder("net")?;
-    files.folder("empty")?;
+    let given: [(&str, &[u8]); 10] = [
+        ("net/b.cfg", b"net/b.cfg"),
+        ("net/a.cfg", b"net/a.cfg"),
+        ("net/sub/c.cfg", b"net/sub/c.cfg"),
+        ("other/d.cfg", b"other/d.cfg"),
+        ("netx", b"netx"),
+        ("net", b"net"),
+        ("net/a.cfg", b"net/a.cfg"),
+        ("net/a.cfg", b"later"),
+        ("net/", b""),
+        ("empty/", b""),
+    ];
+    let mut files = files_with(rt.alloc(), &given)?;
     show_listings(rt, &mut files)
 }
 

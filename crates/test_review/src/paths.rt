@@ -1,9 +1,9 @@
 //! The path in `cannot read PATH`: of each job every call on its files fails in turn, and the line names that call's path.
 //! The line says of how many runs how many ended so.
 
-use crate::runs::{COMPARE, TWO_LINKS, status_of};
+use crate::runs::{COMPARE, TWO_LINKS, cannot_read, files_with};
 use crate::tally::Tally;
-use net_io::{MemFiles, MemSink};
+use net_io::MemFiles;
 use std::alloc::Global;
 use std::sync::Wait;
 use std::thread::Threads;
@@ -19,7 +19,6 @@ p2p R1 Ethernet0 R2 Ethernet0
 ";
 
 // A job, and the paths of its calls in order: a folder is listed, and of a file the bytes are read and then its end.
-#[derive(Drop)]
 struct Case {
     name: &'static str,
     words: &'static [&'static str],
@@ -114,46 +113,51 @@ const CASES: [Case; 5] = [
 ];
 
 pub(crate) fn show<R: Threads + Wait + Sync>(rt: &HostRuntime, threads: &R) -> Result<(), Stop> {
-    for case in CASES {
-        let mut tally = Tally::new();
-        let mut call: u64 = 0;
-        for path in case.paths {
-            tally.note(names(rt, threads, case.words, call, path)?);
-            call = call.saturating_add(1);
-        }
-        tally.show(rt, case.name)?;
+    for case in &CASES {
+        show_case(rt, threads, case)?;
     }
     Ok(())
 }
 
+fn show_case<R: Threads + Wait + Sync>(
+    rt: &HostRuntime,
+    threads: &R,
+    case: &Case,
+) -> Result<(), Stop> {
+    let mut tally = Tally::new();
+    let mut call: u64 = 0;
+    for path in case.paths {
+        tally.note(names(rt.alloc(), threads, case.words, call, path)?);
+        call = call.saturating_add(1);
+    }
+    tally.show(rt, case.name)
+}
+
 // Whether the run in which this call fails ends with status 4, names this path and writes nothing else.
 fn names<R: Threads + Wait + Sync>(
-    rt: &HostRuntime,
+    alloc: Global,
     threads: &R,
     words: &[&str],
     call: u64,
     path: &str,
 ) -> Result<bool, Stop> {
-    let mut files = two_each(rt.alloc())?;
+    let mut files = two_each(alloc)?;
     files.fail_at(call);
-    let mut out = MemSink::new(rt.alloc(), 1000)?;
-    let mut err = MemSink::new(rt.alloc(), 1000)?;
-    let status = status_of(rt, threads, &mut files, words, &mut out, &mut err)?;
-    let line = format!(in rt.alloc(); "cannot read {path}\n")?;
-    Ok(status == 4 && out.taken().is_empty() && err.taken() == line.as_bytes())
+    cannot_read(alloc, threads, &mut files, words, path)
 }
 
 // The folders `old` and `new` with two files each, a link table of each, and a file of questions.
 fn two_each(alloc: Global) -> Result<MemFiles, Stop> {
-    let mut files = MemFiles::new(alloc)?;
-    files.folder("old")?;
-    files.put("old/R1.cfg", TWO_LINKS)?;
-    files.put("old/R2.cfg", SECOND)?;
-    files.folder("new")?;
-    files.put("new/R1.cfg", TWO_LINKS)?;
-    files.put("new/R2.cfg", SECOND)?;
-    files.put("links", LINKS)?;
-    files.put("newlinks", LINKS)?;
-    files.put("questions", b"touch\n")?;
-    Ok(files)
+    let given: [(&str, &[u8]); 9] = [
+        ("old/", b""),
+        ("old/R1.cfg", TWO_LINKS),
+        ("old/R2.cfg", SECOND),
+        ("new/", b""),
+        ("new/R1.cfg", TWO_LINKS),
+        ("new/R2.cfg", SECOND),
+        ("links", LINKS),
+        ("newlinks", LINKS),
+        ("questions", b"touch\n"),
+    ];
+    files_with(alloc, &given)
 }

@@ -35,54 +35,56 @@ const WEB: (Header, Header) = (
     },
 );
 
+// Of each cube the fixed bits, and the values that they have.
+const CUBES: [(Header, Header); 5] = [
+    (NONE, NONE),
+    WEB,
+    (
+        Header {
+            dst: 0xffff_ffc0,
+            src: 0xffff_00ff,
+            ..NONE
+        },
+        Header {
+            dst: 0x0a00_0180,
+            src: 0xac10_0009,
+            ..NONE
+        },
+    ),
+    (
+        Header {
+            dst: 0xffff_fffd,
+            src: 0x8000_0000,
+            flags: 0b1_0100,
+            ..NONE
+        },
+        Header {
+            dst: 0x0a09_0000,
+            flags: 0b0_0100,
+            ..NONE
+        },
+    ),
+    (
+        Header {
+            dst: 0xffff_fffe,
+            src: 1,
+            proto: 1,
+            dport: 0xfff0,
+            sport: u16::MAX,
+            flags: u8::MAX,
+        },
+        Header {
+            dst: 0xe000_00fc,
+            src: 1,
+            dport: 0x0050,
+            ..NONE
+        },
+    ),
+];
+
 /// Cubes, each with its fixed bits and their values.
 pub(crate) fn show_cubes(rt: &HostRuntime) -> Result<(), Stop> {
-    let table = [
-        (NONE, NONE),
-        (WEB.0, WEB.1),
-        (
-            Header {
-                dst: 0xffff_ffc0,
-                src: 0xffff_00ff,
-                ..NONE
-            },
-            Header {
-                dst: 0x0a00_0180,
-                src: 0xac10_0009,
-                ..NONE
-            },
-        ),
-        (
-            Header {
-                dst: 0xffff_fffd,
-                src: 0x8000_0000,
-                flags: 0b1_0100,
-                ..NONE
-            },
-            Header {
-                dst: 0x0a09_0000,
-                flags: 0b0_0100,
-                ..NONE
-            },
-        ),
-        (
-            Header {
-                dst: 0xffff_fffe,
-                src: 1,
-                proto: 1,
-                dport: 0xfff0,
-                sport: u16::MAX,
-                flags: u8::MAX,
-            },
-            Header {
-                dst: 0xe000_00fc,
-                src: 1,
-                dport: 0x0050,
-                ..NONE
-            },
-        ),
-    ];
-    for (fixed, bits) in table {
+    for (fixed, bits) in &CUBES {
         show_cube(rt, Cube::from_masks(fixed.to_bits(), bits.to_bits()))?;
     }
     Ok(())
@@ -167,7 +169,19 @@ fn exit(place: Place) -> Outcome {
 /// Outcomes, and a label of two.
 pub(crate) fn show_outcomes(rt: &HostRuntime) -> Result<(), Stop> {
     let names = names(rt.alloc())?;
-    let table = [
+    show_each(rt, &names)?;
+    show_label(rt, &names)
+}
+
+fn show_each(rt: &HostRuntime, names: &Names) -> Result<(), Stop> {
+    for outcome in outcomes() {
+        show(rt, &outcome_bytes(rt.alloc(), names, &outcome)?)?;
+    }
+    Ok(())
+}
+
+fn outcomes() -> [Outcome; 7] {
+    [
         Outcome::Dropped,
         Outcome::Expired,
         (Outcome::Local {
@@ -192,11 +206,7 @@ pub(crate) fn show_outcomes(rt: &HostRuntime) -> Result<(), Stop> {
             device: 5,
             interface: 6,
         })),
-    ];
-    for outcome in table {
-        show(rt, &outcome_bytes(rt.alloc(), &names, &outcome)?)?;
-    }
-    show_label(rt, &names)
+    ]
 }
 
 fn show_label(rt: &HostRuntime, names: &Names) -> Result<(), Stop> {
@@ -215,11 +225,11 @@ fn web_row(alloc: Global, cube: Cube) -> Result<Row, NoMemory> {
 
 /// A report of two sections, and one of none.
 pub(crate) fn show_reports(rt: &HostRuntime) -> Result<(), Stop> {
-    let names = names(rt.alloc())?;
     let Some(cube) = Cube::from_masks(WEB.0.to_bits(), WEB.1.to_bits()) else {
         println!(rt; "a value beside the fixed bits")?;
         return Ok(());
     };
+    let names = names(rt.alloc())?;
     show_sections(rt, &names, cube)?;
     show_lines(rt, &report_bytes(rt.alloc(), &names, &[])?)
 }

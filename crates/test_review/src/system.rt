@@ -2,20 +2,24 @@
 
 use crate::memory::{bytes_of, show_read};
 use crate::names::listed;
-use net_io::{Files, RealFiles, RealSink, read_all, write_all};
+use net_io::{Files, ReadFail, RealFiles, RealSink, read_all, write_all};
 use std::fs;
 use test_stop::Stop;
 
 /// The folder `files` beside this program, a file for a folder, paths where nothing is, and a folder for a file.
 pub(crate) fn show_files(rt: &HostRuntime) -> Result<(), Stop> {
     let mut files = RealFiles::new(rt.clone()?);
+    show_files_of(rt, &mut files)
+}
+
+fn show_files_of<F: Files>(rt: &HostRuntime, files: &mut F) -> Result<(), Stop> {
     for folder in ["files", "none", "files/short.cfg"] {
-        let names = listed(rt.alloc(), &mut files, folder)?;
+        let names = listed(rt.alloc(), files, folder)?;
         println!(rt; "== folder {folder}: {}", names.as_str())?;
     }
     for path in ["files/short.cfg", "files/none.cfg", "", "files"] {
         println!(rt; "== file {path}")?;
-        let read = read_all(rt.alloc(), &mut files, path);
+        let read = read_all(rt.alloc(), files, path);
         show_read(rt, read, b"hostname R1\n")?;
     }
     let mut room = [0; 2];
@@ -28,10 +32,20 @@ pub(crate) fn show_files(rt: &HostRuntime) -> Result<(), Stop> {
 pub(crate) fn show_writers(rt: &HostRuntime) -> Result<(), Stop> {
     let bytes = bytes_of(rt.alloc(), 200_000)?;
     println!(rt; "== written: {}", write_file(rt, &bytes)?)?;
+    let read = read_written(rt)?;
+    show_read(rt, read, &bytes)?;
+    show_full(rt)
+}
+
+// What a read of the written file gives, which is removed then.
+fn read_written(rt: &HostRuntime) -> Result<Result<Vec<u8>, ReadFail>, Stop> {
     let mut files = RealFiles::new(rt.clone()?);
     let read = read_all(rt.alloc(), &mut files, "written");
     fs::remove_file(rt, "written")?;
-    show_read(rt, read, &bytes)?;
+    Ok(read)
+}
+
+fn show_full(rt: &HostRuntime) -> Result<(), Stop> {
     let mut room = [0; 3];
     let mut full = RealSink::new(room.as_mut_slice());
     let first = write_all(&mut full, b"abc").is_ok();

@@ -40,20 +40,20 @@ struct Told {
 }
 
 fn edited(alloc: Global) -> Result<Option<Told>, EditFail> {
-    let Numbered {
-        names,
-        mut old,
-        links,
-        ..
-    } = generate(alloc, 7, 20)?;
-    let Ok(spare) = u32::try_from(names.texts.as_slice().len()) else {
+    let mut numbered = generate(alloc, 7, 20)?;
+    edited_with_bare(alloc, &mut numbered)
+}
+
+// The router without interfaces joins the network.
+fn edited_with_bare(alloc: Global, numbered: &mut Numbered) -> Result<Option<Told>, EditFail> {
+    let Ok(spare) = u32::try_from(numbered.names.texts.as_slice().len()) else {
         return Ok(None);
     };
     let Some(device) = bare(alloc, spare) else {
         return Ok(None);
     };
-    old.devices.push(device)?;
-    after_edits(alloc, &old, &links, spare)
+    numbered.old.devices.push(device)?;
+    after_edits(alloc, &numbered.old, &numbered.links, spare)
 }
 
 fn after_edits(
@@ -66,14 +66,19 @@ fn after_edits(
         return Ok(None);
     }
     let mut review = Review::open(alloc, network, links, 255)?;
-    let edits = edits(alloc, &mut review, device)?;
-    let sections = review.sections(alloc)?;
+    let told = tell(alloc, &mut review, device)?;
+    Ok(Some(told))
+}
+
+fn tell(alloc: Global, review: &mut Review, device: u32) -> Result<Told, EditFail> {
+    let edits = edits(alloc, review, device)?;
+    let sections = review.sections(alloc)?.len();
     let rows = review.affected(alloc)?;
-    Ok(Some(Told {
+    Ok(Told {
         edits,
-        sections: sections.len(),
+        sections,
         rows,
-    }))
+    })
 }
 
 // Adds and drops a route, and counts the answers that are the first one's with nothing walked.
@@ -86,13 +91,22 @@ fn edits(alloc: Global, review: &mut Review, device: u32) -> Result<u32, EditFai
         device,
         route: null_route(PRIVATE, 16),
     };
-    let first = review.edit(alloc, &there)?;
+    edits_to_and_fro(alloc, review, &there, &back)
+}
+
+fn edits_to_and_fro(
+    alloc: Global,
+    review: &mut Review,
+    there: &Edit,
+    back: &Edit,
+) -> Result<u32, EditFail> {
+    let first = review.edit(alloc, there)?;
     let mut same = count_of(first, first);
-    let second = review.edit(alloc, &back)?;
+    let second = review.edit(alloc, back)?;
     same = same.saturating_add(count_of(first, second));
     for _ in 1..ROUNDS {
-        let one = review.edit(alloc, &there)?;
-        let other = review.edit(alloc, &back)?;
+        let one = review.edit(alloc, there)?;
+        let other = review.edit(alloc, back)?;
         same = same.saturating_add(count_of(first, one));
         same = same.saturating_add(count_of(first, other));
     }

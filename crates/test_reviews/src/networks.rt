@@ -33,11 +33,16 @@ pub(crate) fn network_of(alloc: Global, plan: Plan) -> Option<Linked> {
 
 fn network(alloc: Global, routers: &[&str]) -> Option<Network> {
     let mut devices = List::empty(alloc);
+    add_devices(alloc, &mut devices, routers)?;
+    Some(Network { devices })
+}
+
+fn add_devices(alloc: Global, devices: &mut List<NetDevice>, routers: &[&str]) -> Option<()> {
     for (name, text) in (0..).zip(routers) {
         let device = device(alloc, name, text)?;
         devices.push(device).ok()?;
     }
-    Some(Network { devices })
+    Some(())
 }
 
 /// A router of this number, as its configuration says.
@@ -80,14 +85,24 @@ fn numbers(alloc: Global, count: usize) -> Result<List<u32>, NoMemory> {
 }
 
 fn links(alloc: Global, plan: Plan) -> Result<Links, NoMemory> {
-    let mut segments = List::empty(alloc);
-    segments.push(cable(alloc, at(0, 1), at(1, 0))?)?;
-    if matches!(plan, Plan::Fan) {
-        segments.push(cable(alloc, at(0, 2), at(2, 0))?)?;
-    }
     let mut ingress = List::empty(alloc);
     ingress.push(at(0, 0))?;
+    let segments = segments(alloc, plan)?;
     Ok(Links { segments, ingress })
+}
+
+fn segments(alloc: Global, plan: Plan) -> Result<List<Segment>, NoMemory> {
+    let count = match plan {
+        Plan::Pair => 1,
+        Plan::Fan => 2,
+    };
+    let cables = [(at(0, 1), at(1, 0)), (at(0, 2), at(2, 0))];
+    let mut segments = List::empty(alloc);
+    for (one, other) in cables.iter().take(count) {
+        let segment = cable(alloc, *one, *other)?;
+        segments.push(segment)?;
+    }
+    Ok(segments)
 }
 
 // A point-to-point link.

@@ -115,21 +115,29 @@ enum Outcome {
 }
 
 fn all_made(alloc: Global, linked: &Linked, changes: &[Change]) -> Result<Vec<Outcome>, NoMemory> {
-    let mut all = Vec::new(alloc);
     if linked.links.ingress.as_slice().len() > 1 {
-        return Ok(all);
+        return Ok(Vec::new(alloc));
     }
     let mut review = Review::open(alloc, &linked.network, &linked.links, 64)?;
+    made_in(alloc, &mut review, changes)
+}
+
+fn made_in(
+    alloc: Global,
+    review: &mut Review,
+    changes: &[Change],
+) -> Result<Vec<Outcome>, NoMemory> {
+    let mut all = Vec::new(alloc);
     for change in changes {
-        let outcome = made(alloc, &mut review, *change)?;
+        let outcome = made(alloc, review, *change)?;
         all.push(outcome)?;
     }
     Ok(all)
 }
 
 fn made(alloc: Global, review: &mut Review, change: Change) -> Result<Outcome, NoMemory> {
-    let edit = edit_of(change);
-    match review.edit(alloc, &edit) {
+    let edited = review.edit(alloc, &edit_of(change));
+    match edited {
         Ok(touched) => {
             let rows = review.affected(alloc)?;
             Ok(Outcome::Edited { touched, rows })

@@ -49,8 +49,17 @@ fn answered<R: Threads + Wait + Sync>(
     by: &Workers<R, OpenGate>,
 ) -> Option<RolloutAnswer> {
     let linked = network_of(alloc, Plan::Pair)?;
-    let changes = [device(alloc, 0, SHUT)?, device(alloc, 0, AT_EACH_OTHER[0])?];
-    answered_on(alloc, by, &linked, &changes).ok()
+    answered_over(alloc, by, &linked)
+}
+
+fn answered_over<R: Threads + Wait + Sync>(
+    alloc: Global,
+    by: &Workers<R, OpenGate>,
+    linked: &Linked,
+) -> Option<RolloutAnswer> {
+    let shut = device(alloc, 0, SHUT)?;
+    let open = device(alloc, 0, AT_EACH_OTHER[0])?;
+    answered_on(alloc, by, linked, &[shut, open]).ok()
 }
 
 fn answered_on<R: Threads + Wait + Sync>(

@@ -58,11 +58,15 @@ const DESTINATIONS: [u32; 19] = [
 
 /// Prints what the device does with each of the destinations.
 pub(crate) fn print_destinations(rt: &HostRuntime) -> io::Result<()> {
-    let Some(config) = read_lines(rt.alloc(), INTERFACES, ROUTES) else {
-        return println!(rt; "refused: {ROUTES}");
-    };
+    match read_lines(rt.alloc(), INTERFACES, ROUTES) {
+        Some(config) => print_each(rt, &config),
+        None => println!(rt; "refused: {ROUTES}"),
+    }
+}
+
+fn print_each(rt: &HostRuntime, config: &Config) -> io::Result<()> {
     for address in DESTINATIONS {
-        print_destination(rt, &config, address)?;
+        print_destination(rt, config, address)?;
     }
     Ok(())
 }
@@ -75,13 +79,27 @@ pub(crate) fn print_again(rt: &HostRuntime) -> io::Result<()> {
 }
 
 fn is_same_again(alloc: Global) -> Result<bool, NoMemory> {
-    let Some(config) = forty_interfaces(alloc) else {
-        return Ok(false);
-    };
+    match forty_interfaces(alloc) {
+        Some(config) => is_added_again(alloc, &config),
+        None => Ok(false),
+    }
+}
+
+fn is_added_again(alloc: Global, config: &Config) -> Result<bool, NoMemory> {
     let mut diagrams = Diagrams::new(alloc)?;
     let mut fates = Fates::new(alloc);
-    let first = add_device(alloc, &mut diagrams, &mut fates, &config)?;
-    let again = add_device(alloc, &mut diagrams, &mut fates, &config)?;
+    is_again_in(alloc, &mut diagrams, &mut fates, config)
+}
+
+// Whether the device has one function in these tables when it is added twice.
+fn is_again_in(
+    alloc: Global,
+    diagrams: &mut Diagrams,
+    fates: &mut Fates,
+    config: &Config,
+) -> Result<bool, NoMemory> {
+    let first = add_device(alloc, diagrams, fates, config)?;
+    let again = add_device(alloc, diagrams, fates, config)?;
     Ok(diagrams.same(first, again))
 }
 
@@ -96,10 +114,10 @@ fn forty_interfaces(alloc: Global) -> Option<Config> {
 }
 
 fn print_destination(rt: &HostRuntime, config: &Config, address: u32) -> io::Result<()> {
-    let mut fates = Fates::new(rt.alloc());
-    let number = number_of(rt.alloc(), &mut fates, config, address);
     let [a, b, c, d] = address.to_be_bytes();
     print!(rt; "{a}.{b}.{c}.{d}")?;
+    let mut fates = Fates::new(rt.alloc());
+    let number = number_of(rt.alloc(), &mut fates, config, address);
     print_fate(rt, number.ok().flatten().and_then(|n| fates.get(n)))
 }
 
@@ -111,7 +129,17 @@ fn number_of(
     address: u32,
 ) -> Result<Option<u32>, NoMemory> {
     let mut diagrams = Diagrams::new(alloc)?;
-    let function = add_device(alloc, &mut diagrams, fates, config)?;
+    number_in(alloc, &mut diagrams, fates, config, address)
+}
+
+fn number_in(
+    alloc: Global,
+    diagrams: &mut Diagrams,
+    fates: &mut Fates,
+    config: &Config,
+    address: u32,
+) -> Result<Option<u32>, NoMemory> {
+    let function = add_device(alloc, diagrams, fates, config)?;
     let header = Header {
         dst: address,
         ..Cube::all().least()

@@ -106,23 +106,35 @@ fn changes(alloc: Global) -> Option<Vec<Change>> {
 
 // How many of the devices are found equal to another one of the same text.
 fn count_equal(alloc: Global, changes: &[Change]) -> usize {
-    let equal = changes
-        .iter()
-        .filter(|change| is_equal(alloc, **change) == Some(true));
+    let equal = changes.iter().filter(|change| is_equal(alloc, **change));
     equal.count()
 }
 
-fn is_equal(alloc: Global, change: Change) -> Option<bool> {
-    let one = device(alloc, change)?;
-    let again = device(alloc, change)?;
-    let copy = one.copy(alloc).ok()?;
-    Some(same_device(&one, &again) && same_device(&one, &copy))
+fn is_equal(alloc: Global, change: Change) -> bool {
+    match device(alloc, change) {
+        Some(one) => equals_another(alloc, change, &one) && equals_copy(alloc, &one),
+        None => false,
+    }
+}
+
+fn equals_another(alloc: Global, change: Change, one: &NetDevice) -> bool {
+    match device(alloc, change) {
+        Some(again) => same_device(one, &again),
+        None => false,
+    }
+}
+
+fn equals_copy(alloc: Global, one: &NetDevice) -> bool {
+    match one.copy(alloc) {
+        Ok(copy) => same_device(one, &copy),
+        Err(_) => false,
+    }
 }
 
 fn device(alloc: Global, change: Change) -> Option<NetDevice> {
+    let numbers = List::new(numbers(alloc, change)?);
     let text = text_of(alloc, change)?;
     let config = read(alloc, &text)?;
-    let numbers = List::new(numbers(alloc, change)?);
     if numbers.as_slice().len() != config.interfaces.as_slice().len() {
         return None;
     }

@@ -95,10 +95,13 @@ pub(crate) fn print_lists(rt: &HostRuntime) -> io::Result<()> {
 }
 
 fn print_entry(rt: &HostRuntime, entry: &str) -> io::Result<()> {
-    let Some(config) = read_lines(rt.alloc(), "ip access-list extended A", entry) else {
-        return println!(rt; "refused:{entry}");
-    };
-    let list = config.lists.as_slice().first();
+    match read_lines(rt.alloc(), "ip access-list extended A", entry) {
+        Some(config) => print_signs(rt, config.lists.as_slice().first(), entry),
+        None => println!(rt; "refused:{entry}"),
+    }
+}
+
+fn print_signs(rt: &HostRuntime, list: Option<&AccessList>, entry: &str) -> io::Result<()> {
     for header in &HEADERS {
         print!(rt; "{}", sign(rt.alloc(), list, header))?;
     }
@@ -133,7 +136,16 @@ fn diagram_passes(
     header: &Header,
 ) -> Result<bool, NoMemory> {
     let mut diagrams = Diagrams::new(alloc)?;
-    let function = add_list(alloc, &mut diagrams, list)?;
+    passes_in(alloc, &mut diagrams, list, header)
+}
+
+fn passes_in(
+    alloc: Global,
+    diagrams: &mut Diagrams,
+    list: Option<&AccessList>,
+    header: &Header,
+) -> Result<bool, NoMemory> {
+    let function = add_list(alloc, diagrams, list)?;
     Ok(diagrams.lookup(function, header) == Some(1))
 }
 
@@ -174,10 +186,13 @@ pub(crate) fn print_verdicts(rt: &HostRuntime) -> io::Result<()> {
 }
 
 fn print_verdicts_of(rt: &HostRuntime, lines: &str) -> io::Result<()> {
-    let Some(config) = read_lines(rt.alloc(), "ip access-list extended A", lines) else {
-        return println!(rt; "refused: {lines}");
-    };
-    let list = config.lists.as_slice().first();
+    match read_lines(rt.alloc(), "ip access-list extended A", lines) {
+        Some(config) => print_verdicts_by(rt, config.lists.as_slice().first()),
+        None => println!(rt; "refused: {lines}"),
+    }
+}
+
+fn print_verdicts_by(rt: &HostRuntime, list: Option<&AccessList>) -> io::Result<()> {
     print!(rt; "verdicts:")?;
     for header in &HEADERS {
         print_verdict(rt, first_match(list, header))?;

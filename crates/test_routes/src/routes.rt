@@ -120,14 +120,18 @@ pub(crate) fn print_routes(rt: &HostRuntime) -> io::Result<()> {
 }
 
 fn print_table(rt: &HostRuntime, interfaces: &str, lines: &str, address: u32) -> io::Result<()> {
-    let Some(rib) = installed(rt.alloc(), interfaces, lines) else {
-        return println!(rt; "refused: {lines}");
-    };
+    match installed(rt.alloc(), interfaces, lines) {
+        Some(rib) => print_rib(rt, &rib, address),
+        None => println!(rt; "refused: {lines}"),
+    }
+}
+
+fn print_rib(rt: &HostRuntime, rib: &Rib, address: u32) -> io::Result<()> {
     print!(rt; "of {}", rib.count)?;
     for route in rib.routes.as_slice() {
         print_prefix(rt, route)?;
     }
-    print_choices(rt, &rib, address)?;
+    print_choices(rt, rib, address)?;
     println!(rt; "")
 }
 
@@ -142,15 +146,19 @@ fn print_prefix(rt: &HostRuntime, route: &Route) -> io::Result<()> {
 }
 
 fn print_choices(rt: &HostRuntime, rib: &Rib, address: u32) -> io::Result<()> {
-    let Ok(hops) = choices(rt.alloc(), rib, address) else {
-        return print!(rt; " no memory");
-    };
+    match choices(rt.alloc(), rib, address) {
+        Ok(hops) => print_hops(rt, rib, address, &hops),
+        Err(_) => print!(rt; " no memory"),
+    }
+}
+
+fn print_hops(rt: &HostRuntime, rib: &Rib, address: u32, hops: &[Hop]) -> io::Result<()> {
     print!(rt; ":")?;
-    for hop in &hops {
+    for hop in hops {
         print_hop(rt, hop)?;
     }
-    let alike = are_compiled(rt.alloc(), rib, address, &hops) == Ok(true)
-        && are_tried_first(rt.alloc(), rib, address, &hops) == Ok(true);
+    let alike = are_compiled(rt.alloc(), rib, address, hops) == Ok(true)
+        && are_tried_first(rt.alloc(), rib, address, hops) == Ok(true);
     print!(rt; "{}", if alike { "" } else { " ?" })
 }
 

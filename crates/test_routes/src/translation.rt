@@ -39,27 +39,23 @@ const OTHER: u32 = 9;
 /// Prints of each side what it is as a destination from outside and as a source from inside, and what becomes of the other
 /// side: of a host that an outer rule knows, and of another one.
 pub(crate) fn print_translation(rt: &HostRuntime) -> io::Result<()> {
-    let Some(config) = read_lines(rt.alloc(), PLAIN, OTHERS) else {
-        return println!(rt; "refused: {PLAIN}");
-    };
+    match read_lines(rt.alloc(), PLAIN, OTHERS) {
+        Some(config) => print_sides(rt, config.nat.as_slice()),
+        None => println!(rt; "refused: {PLAIN}"),
+    }
+}
+
+fn print_sides(rt: &HostRuntime, rules: &[NatRule]) -> io::Result<()> {
     for (address, proto, port) in SIDES {
         print_side(rt, address, port)?;
         print!(rt; " protocol {proto}: to ")?;
-        print_outside(rt, config.nat.as_slice(), &to(GLOBAL, address, proto, port))?;
+        print_outside(rt, rules, &to(GLOBAL, address, proto, port))?;
         print!(rt; ", ")?;
-        print_outside(rt, config.nat.as_slice(), &to(OTHER, address, proto, port))?;
+        print_outside(rt, rules, &to(OTHER, address, proto, port))?;
         print!(rt; ", from ")?;
-        print_inside(
-            rt,
-            config.nat.as_slice(),
-            &from(LOCAL, address, proto, port),
-        )?;
+        print_inside(rt, rules, &from(LOCAL, address, proto, port))?;
         print!(rt; ", ")?;
-        print_inside(
-            rt,
-            config.nat.as_slice(),
-            &from(OTHER, address, proto, port),
-        )?;
+        print_inside(rt, rules, &from(OTHER, address, proto, port))?;
         println!(rt; "")?;
     }
     Ok(())

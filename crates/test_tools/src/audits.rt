@@ -1,6 +1,6 @@
 //! Audits of a folder of two devices.
 
-use crate::runs::{Program, ROOM, show_run};
+use crate::runs::{Program, ROOM, files_with, show_run};
 use net_io::MemFiles;
 use std::alloc::Global;
 use std::sync::Wait;
@@ -22,11 +22,7 @@ access-list 7 permit host 10.0.0.1
 const AUDIT: [&str; 2] = ["audit", "net"];
 
 fn network(alloc: Global, first: &[u8]) -> Result<MemFiles, Stop> {
-    let mut files = MemFiles::new(alloc)?;
-    files.folder("net")?;
-    files.put("net/R1.cfg", first)?;
-    files.put("net/R2.cfg", CLEAN)?;
-    Ok(files)
+    files_with(alloc, &[("net/R1.cfg", first), ("net/R2.cfg", CLEAN)])
 }
 
 pub(crate) fn show<R: Threads + Wait + Sync>(rt: &HostRuntime, threads: &R) -> Result<(), Stop> {
@@ -63,16 +59,27 @@ fn show_texts<R: Threads + Wait + Sync>(rt: &HostRuntime, threads: &R) -> Result
         b"!\n",
     ];
     for first in cases {
-        let mut files = network(rt.alloc(), first)?;
-        show_run(rt, threads, Program::Rollout, &mut files, &AUDIT, ROOM)?;
+        show_text(rt, threads, first)?;
     }
     println!(rt; "== a byte at each read")?;
-    let mut files = network(rt.alloc(), b"hostname R1\n")?;
-    files.at_most(1);
-    show_run(rt, threads, Program::Rollout, &mut files, &AUDIT, ROOM)?;
+    show_by_bytes(rt, threads)?;
     println!(rt; "== a file of 16777217 bytes")?;
     let long = vec![in rt.alloc(); b'!'; 16_777_217]?;
-    let mut files = network(rt.alloc(), &long)?;
+    show_text(rt, threads, &long)
+}
+
+fn show_text<R: Threads + Wait + Sync>(
+    rt: &HostRuntime,
+    threads: &R,
+    first: &[u8],
+) -> Result<(), Stop> {
+    let mut files = network(rt.alloc(), first)?;
+    show_run(rt, threads, Program::Rollout, &mut files, &AUDIT, ROOM)
+}
+
+fn show_by_bytes<R: Threads + Wait + Sync>(rt: &HostRuntime, threads: &R) -> Result<(), Stop> {
+    let mut files = network(rt.alloc(), b"hostname R1\n")?;
+    files.at_most(1);
     show_run(rt, threads, Program::Rollout, &mut files, &AUDIT, ROOM)
 }
 

@@ -1,6 +1,6 @@
 //! Reviews of edits on a network of one device with two lists.
 
-use crate::runs::{Program, ROOM, show_run};
+use crate::runs::{Program, ROOM, files_with, show_run};
 use net_io::MemFiles;
 use std::alloc::Global;
 use std::sync::Wait;
@@ -26,12 +26,10 @@ const ADDED: &[u8] = b"entry R1 101 20 permit tcp any host 10.0.1.5 eq www\n";
 const EDITS: [&str; 4] = ["edits", "net", "links", "edits"];
 
 fn network(alloc: Global, edits: &[u8]) -> Result<MemFiles, Stop> {
-    let mut files = MemFiles::new(alloc)?;
-    files.folder("net")?;
-    files.put("net/R1.cfg", R1)?;
-    files.put("links", LINKS)?;
-    files.put("edits", edits)?;
-    Ok(files)
+    files_with(
+        alloc,
+        &[("net/R1.cfg", R1), ("links", LINKS), ("edits", edits)],
+    )
 }
 
 pub(crate) fn show<R: Threads + Wait + Sync>(rt: &HostRuntime, threads: &R) -> Result<(), Stop> {

@@ -1,6 +1,6 @@
 //! Rollouts on a network of two devices with a default route at each other.
 
-use crate::runs::{Program, ROOM, ran, show_run};
+use crate::runs::{Finished, Program, ROOM, files_with, put_all, ran, show_run};
 use net_io::MemFiles;
 use std::alloc::Global;
 use std::sync::Wait;
@@ -72,6 +72,11 @@ interface Ethernet1
  ip address 10.0.8.2 255.255.255.252
 ";
 
+const TWO_LINKS: &[u8] = b"p2p R1 Ethernet1 R2 Ethernet0
+p2p R1 Ethernet2 R2 Ethernet1
+ingress R1 Ethernet1
+";
+
 const TWO_AS_OTHER: &[u8] = b"hostname R1
 interface Ethernet1
  ip address 10.0.12.2 255.255.255.252
@@ -81,28 +86,23 @@ interface Ethernet2
 
 const ROLLOUT: [&str; 5] = ["rollout", "net", "links", "questions", "steps"];
 
-fn network(alloc: Global, questions: &[u8], steps: &[u8]) -> Result<MemFiles, Stop> {
-    let mut files = MemFiles::new(alloc)?;
-    files.folder("net")?;
-    files.put("net/R1.cfg", R1)?;
-    files.put("net/R2.cfg", R2)?;
-    files.put("links", LINKS)?;
-    files.put("questions", questions)?;
-    files.put("steps", steps)?;
-    put_changes(&mut files)?;
-    Ok(files)
-}
-
-fn put_changes(files: &mut MemFiles) -> Result<(), Stop> {
-    files.put("s1", SHUT)?;
-    files.put("s2", R1)?;
-    files.put("swapped1", R1_AS_R2)?;
-    files.put("swapped2", R2_AS_R1)?;
-    files.put("wider", WIDER)?;
-    files.put("unknown", b"hostname R9\n")?;
-    files.put("bad", b"hostname R1\nrouter ospf 1\n")?;
-    files.put("nameless", b"!\n")?;
-    Ok(())
+fn network<'a>(alloc: Global, questions: &'a [u8], steps: &'a [u8]) -> Result<MemFiles, Stop> {
+    let given: [(&str, &[u8]); 13] = [
+        ("net/R1.cfg", R1),
+        ("net/R2.cfg", R2),
+        ("links", LINKS),
+        ("questions", questions),
+        ("steps", steps),
+        ("s1", SHUT),
+        ("s2", R1),
+        ("swapped1", R1_AS_R2),
+        ("swapped2", R2_AS_R1),
+        ("wider", WIDER),
+        ("unknown", b"hostname R9\n"),
+        ("bad", b"hostname R1\nrouter ospf 1\n"),
+        ("nameless", b"!\n"),
+    ];
+    files_with(alloc, &given)
 }
 
 pub(crate) fn show<R: Threads + Wait + Sync>(rt: &HostRuntime, threads: &R) -> Result<(), Stop> {
@@ -192,14 +192,14 @@ fn show_refusals<R: Threads + Wait + Sync>(rt: &HostRuntime, threads: &R) -> Res
 // Two links, of which each has an address twice after the step: the least of both is told.
 fn show_segments<R: Threads + Wait + Sync>(rt: &HostRuntime, threads: &R) -> Result<(), Stop> {
     println!(rt; "== an address twice on each of two links")?;
+    let given: [(&str, &[u8]); 4] = [
+        ("net/R1.cfg", TWO),
+        ("net/R2.cfg", OTHER_TWO),
+        ("two", TWO_AS_OTHER),
+        ("links", TWO_LINKS),
+    ];
     let mut files = network(rt.alloc(), b"", b"change two\n")?;
-    files.put("net/R1.cfg", TWO)?;
-    files.put("net/R2.cfg", OTHER_TWO)?;
-    files.put("two", TWO_AS_OTHER)?;
-    files.put(
-        "links",
-        b"p2p R1 Ethernet1 R2 Ethernet0\np2p R1 Ethernet2 R2 Ethernet1\ningress R1 Ethernet1\n",
-    )?;
+    put_all(&mut files, &given)?;
     show_run(rt, threads, Program::Rollout, &mut files, &ROLLOUT, ROOM)
 }
 
@@ -227,20 +227,24 @@ fn show_orders<R: Threads + Wait + Sync>(rt: &HostRuntime, threads: &R) -> Resul
 // A path that isn't UTF-8, and a byte at each read.
 fn show_bytes<R: Threads + Wait + Sync>(rt: &HostRuntime, threads: &R) -> Result<(), Stop> {
     println!(rt; "== a path that isn't UTF-8")?;
-    let mut files = network(rt.alloc(), QUESTION, b"change \xff s1\n")?;
-    let ran = ran(
-        rt.alloc(),
-        threads,
-        Program::Rollout,
-        &mut files,
-        &ROLLOUT,
-        ROOM,
-    )?;
-    println!(rt; "status {} {}", ran.status, ran.err.taken().escape_ascii())?;
+    show_path(rt, threads)?;
     println!(rt; "== a byte at each read")?;
     let mut files = network(rt.alloc(), QUESTION, b"change s1\nchange s2\n")?;
     files.at_most(1);
     show_run(rt, threads, Program::Rollout, &mut files, &ROLLOUT, ROOM)
+}
+
+fn show_path<R: Threads + Wait + Sync>(rt: &HostRuntime, threads: &R) -> Result<(), Stop> {
+    let alloc = rt.alloc();
+    let mut files = network(alloc, QUESTION, b"change \xff s1\n")?;
+    let program = Program::Rollout;
+    let ran = ran(alloc, threads, program, &mut files, &ROLLOUT, ROOM)?;
+    show_refusal(rt, &ran)
+}
+
+fn show_refusal(rt: &HostRuntime, ran: &Finished) -> Result<(), Stop> {
+    println!(rt; "status {} {}", ran.status, ran.err.taken().escape_ascii())?;
+    Ok(())
 }
 
 // So many lines that change a file, and then another one.
@@ -281,8 +285,23 @@ fn long_text(alloc: Global, size: usize) -> Result<Vec<u8>, Stop> {
 // file of 12 bytes is the fifth.
 fn show_lengths<R: Threads + Wait + Sync>(rt: &HostRuntime, threads: &R) -> Result<(), Stop> {
     let mut files = network(rt.alloc(), FAILING, b"")?;
-    files.put("full", &long_text(rt.alloc(), 16_777_216)?)?;
-    files.put("long", &long_text(rt.alloc(), 16_777_217)?)?;
+    put_long(rt.alloc(), &mut files)?;
+    show_lengths_of(rt, threads, &mut files)
+}
+
+fn put_long(alloc: Global, files: &mut MemFiles) -> Result<(), Stop> {
+    for (path, size) in [("full", 16_777_216), ("long", 16_777_217)] {
+        let text = long_text(alloc, size)?;
+        files.put(path, &text)?;
+    }
+    Ok(())
+}
+
+fn show_lengths_of<R: Threads + Wait + Sync>(
+    rt: &HostRuntime,
+    threads: &R,
+    files: &mut MemFiles,
+) -> Result<(), Stop> {
     let cases: [&[u8]; 5] = [
         b"change long\n",
         b"change full\nchange full\nchange full\nchange full\n",
@@ -293,11 +312,11 @@ fn show_lengths<R: Threads + Wait + Sync>(rt: &HostRuntime, threads: &R) -> Resu
     for steps in cases {
         println!(rt; "== {}", steps.escape_ascii())?;
         files.put("steps", steps)?;
-        show_run(rt, threads, Program::Rollout, &mut files, &ROLLOUT, ROOM)?;
+        show_run(rt, threads, Program::Rollout, files, &ROLLOUT, ROOM)?;
     }
     println!(rt; "== steps of 16777217 bytes")?;
     files.put("steps", &long_text(rt.alloc(), 16_777_217)?)?;
-    show_run(rt, threads, Program::Rollout, &mut files, &ROLLOUT, ROOM)
+    show_run(rt, threads, Program::Rollout, files, &ROLLOUT, ROOM)
 }
 
 // The text has 25 bytes.

@@ -36,6 +36,34 @@ pub(crate) struct Finished {
     pub(crate) err: MemSink,
 }
 
+// Where a run writes to.
+#[derive(Drop)]
+struct Outputs {
+    out: MemSink,
+    err: MemSink,
+}
+
+fn outputs_of(alloc: Global, room: usize) -> Result<Outputs, Stop> {
+    let out = MemSink::new(alloc, room)?;
+    let err = MemSink::new(alloc, 1000)?;
+    Ok(Outputs { out, err })
+}
+
+fn status_of<R: Threads + Wait + Sync>(
+    alloc: Global,
+    threads: &R,
+    program: Program,
+    files: &mut MemFiles,
+    words: &[String],
+    outputs: &mut Outputs,
+) -> u8 {
+    let Outputs { out, err } = outputs;
+    match program {
+        Program::Rollout => tool(threads, alloc, words, files, out, err, &OpenGate),
+        Program::View => view_run(alloc, words, files, out, err),
+    }
+}
+
 /// Runs the program with these words where the output has so much room.
 pub(crate) fn ran<R: Threads + Wait + Sync>(
     alloc: Global,
@@ -46,12 +74,9 @@ pub(crate) fn ran<R: Threads + Wait + Sync>(
     room: usize,
 ) -> Result<Finished, Stop> {
     let words = strings(alloc, words)?;
-    let mut out = MemSink::new(alloc, room)?;
-    let mut err = MemSink::new(alloc, 1000)?;
-    let status = match program {
-        Program::Rollout => tool(threads, alloc, &words, files, &mut out, &mut err, &OpenGate),
-        Program::View => view_run(alloc, &words, files, &mut out, &mut err),
-    };
+    let mut outputs = outputs_of(alloc, room)?;
+    let status = status_of(alloc, threads, program, files, &words, &mut outputs);
+    let Outputs { out, err } = outputs;
     Ok(Finished { status, out, err })
 }
 
@@ -75,6 +100,22 @@ fn show_lines(rt: &HostRuntime, bytes: &[u8]) -> Result<(), Stop> {
     rt.stdout().write_all(bytes)?;
     if !bytes.is_empty() && !bytes.ends_with(b"\n") {
         println!(rt; "")?;
+    }
+    Ok(())
+}
+
+/// Files in memory, each with its path and its bytes, and the folder `net`.
+pub(crate) fn files_with(alloc: Global, given: &[(&str, &[u8])]) -> Result<MemFiles, Stop> {
+    let mut files = MemFiles::new(alloc)?;
+    files.folder("net")?;
+    put_all(&mut files, given)?;
+    Ok(files)
+}
+
+/// Puts each of the files at its path.
+pub(crate) fn put_all(files: &mut MemFiles, given: &[(&str, &[u8])]) -> Result<(), Stop> {
+    for (path, bytes) in given {
+        files.put(path, bytes)?;
     }
     Ok(())
 }

@@ -1,6 +1,6 @@
 //! Reports that are shown.
 
-use crate::runs::{Program, ROOM, ran, show_run};
+use crate::runs::{Program, ROOM, put_all, ran, show_run};
 use net_io::MemFiles;
 use std::alloc::Global;
 use std::sync::Wait;
@@ -20,10 +20,13 @@ affected 2
 const LINKS: &[u8] = b"ingress R1 Ethernet0\n";
 
 fn texts(alloc: Global, report: &[u8]) -> Result<MemFiles, Stop> {
+    let given: [(&str, &[u8]); 3] = [
+        ("report", report),
+        ("links", LINKS),
+        ("wrong", b"! the second line is none\ntouch R1 Ethernet0\n"),
+    ];
     let mut files = MemFiles::new(alloc)?;
-    files.put("report", report)?;
-    files.put("links", LINKS)?;
-    files.put("wrong", b"! the second line is none\ntouch R1 Ethernet0\n")?;
+    put_all(&mut files, &given)?;
     Ok(files)
 }
 
@@ -73,16 +76,27 @@ fn show_reports<R: Threads + Wait + Sync>(rt: &HostRuntime, threads: &R) -> Resu
         b"",
     ];
     for report in cases {
-        let mut files = texts(rt.alloc(), report)?;
-        show_run(rt, threads, Program::View, &mut files, &["report"], ROOM)?;
+        show_report(rt, threads, report)?;
     }
     println!(rt; "== a byte at each read")?;
-    let mut files = texts(rt.alloc(), REPORT)?;
-    files.at_most(1);
-    show_run(rt, threads, Program::View, &mut files, &["report"], ROOM)?;
+    show_by_bytes(rt, threads)?;
     println!(rt; "== a text that is longer than other files may be, and no report")?;
     let long = vec![in rt.alloc(); b'!'; 16_777_217]?;
-    let mut files = texts(rt.alloc(), &long)?;
+    show_report(rt, threads, &long)
+}
+
+fn show_report<R: Threads + Wait + Sync>(
+    rt: &HostRuntime,
+    threads: &R,
+    report: &[u8],
+) -> Result<(), Stop> {
+    let mut files = texts(rt.alloc(), report)?;
+    show_run(rt, threads, Program::View, &mut files, &["report"], ROOM)
+}
+
+fn show_by_bytes<R: Threads + Wait + Sync>(rt: &HostRuntime, threads: &R) -> Result<(), Stop> {
+    let mut files = texts(rt.alloc(), REPORT)?;
+    files.at_most(1);
     show_run(rt, threads, Program::View, &mut files, &["report"], ROOM)
 }
 
@@ -108,13 +122,23 @@ fn show_page<R: Threads + Wait + Sync>(rt: &HostRuntime, threads: &R) -> Result<
         &["--html", "report"][..],
         &["--html", "report", "links"][..],
     ] {
-        let ran = ran(rt.alloc(), threads, Program::View, &mut files, words, ROOM)?;
-        let text = ran.out.taken();
-        let begins = text.starts_with(b"<!doctype html>\n");
-        let ends = text.ends_with(b"</html>\n");
-        let status = ran.status;
-        println!(rt; "{words:?}: status {status}, a page: {begins}, whole: {ends}")?;
+        show_ends(rt, threads, &mut files, words)?;
     }
+    Ok(())
+}
+
+fn show_ends<R: Threads + Wait + Sync>(
+    rt: &HostRuntime,
+    threads: &R,
+    files: &mut MemFiles,
+    words: &[&str],
+) -> Result<(), Stop> {
+    let ran = ran(rt.alloc(), threads, Program::View, files, words, ROOM)?;
+    let text = ran.out.taken();
+    let begins = text.starts_with(b"<!doctype html>\n");
+    let ends = text.ends_with(b"</html>\n");
+    let status = ran.status;
+    println!(rt; "{words:?}: status {status}, a page: {begins}, whole: {ends}")?;
     Ok(())
 }
 
