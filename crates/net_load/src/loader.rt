@@ -20,13 +20,22 @@ use std::alloc::Global;
 use topo_links::NameIndex;
 
 /// The files that are loaded so far.
-#[derive(Drop)]
 pub struct Loader {
     pub loaded: Vec<Loaded>,
     /// Their hostnames.
     pub hosts: NameIndex,
     /// How many bytes they have together.
     pub total: usize,
+}
+
+impl Drop for Loader {
+    fn drop(self) {
+        let Loader {
+            loaded: _,
+            hosts: _,
+            total: _,
+        } = self;
+    }
 }
 
 impl Loader {

@@ -16,7 +16,6 @@ use std::alloc::Global;
 use topo_links::{LinkKind, LinkLine, LinkTable, NameIndex};
 
 /// Two networks and the links between their devices, over one list of names.
-#[derive(Drop)]
 pub struct Numbered {
     pub names: Names,
     pub old: Network,
@@ -24,8 +23,18 @@ pub struct Numbered {
     pub links: Links,
 }
 
+impl Drop for Numbered {
+    fn drop(self) {
+        let Numbered {
+            names: _,
+            old: _,
+            new: _,
+            links: _,
+        } = self;
+    }
+}
+
 /// Two networks with links of their own, over one list of names.
-#[derive(Drop)]
 pub struct NumberedBoth {
     pub names: Names,
     pub old: Network,
@@ -34,6 +43,19 @@ pub struct NumberedBoth {
     pub new_links: Links,
     /// The ingresses of the old network's links in their order, then those that the new one's links alone name.
     pub ingress: List<Place>,
+}
+
+impl Drop for NumberedBoth {
+    fn drop(self) {
+        let NumberedBoth {
+            names: _,
+            old: _,
+            new: _,
+            old_links: _,
+            new_links: _,
+            ingress: _,
+        } = self;
+    }
 }
 
 /// Gives each name its number, which is its place among all names in the order of their bytes.

@@ -12,11 +12,20 @@ use net_types::{NoMemory, Text};
 use std::alloc::Global;
 
 /// A file that is read: its name, its path and its bytes.
-#[derive(Drop)]
 pub struct FileText {
     pub file: Text,
     pub path: Text,
     pub bytes: Vec<u8>,
+}
+
+impl Drop for FileText {
+    fn drop(self) {
+        let FileText {
+            file: _,
+            path: _,
+            bytes: _,
+        } = self;
+    }
 }
 
 /// The texts of the first files of a folder, and why the next one couldn't be read, where that ended it.

@@ -37,9 +37,14 @@ pub enum Hop {
 }
 
 /// Names of devices and interfaces, in the order of their bytes, each once. A name's number is its position.
-#[derive(Drop)]
 pub struct Names {
     pub texts: List<Text>,
+}
+
+impl Drop for Names {
+    fn drop(self) {
+        let Names { texts: _ } = self;
+    }
 }
 
 /// An interface of a device, by the numbers of their names.
@@ -63,9 +68,14 @@ pub struct NetDevice {
 }
 
 /// The devices of a network, one of each name.
-#[derive(Drop)]
 pub struct Network {
     pub devices: List<NetDevice>,
+}
+
+impl Drop for Network {
+    fn drop(self) {
+        let Network { devices: _ } = self;
+    }
 }
 
 /// Interfaces that reach one another over a link.
@@ -77,11 +87,19 @@ pub struct Segment {
 }
 
 /// How places are linked, and where packets enter.
-#[derive(Drop)]
 pub struct Links {
     pub segments: List<Segment>,
     /// The places where packets enter the network, in the order of the link table.
     pub ingress: List<Place>,
+}
+
+impl Drop for Links {
+    fn drop(self) {
+        let Links {
+            segments: _,
+            ingress: _,
+        } = self;
+    }
 }
 
 /// A packet between two devices: the place where it arrives, and the header with which it does.
@@ -107,17 +125,31 @@ pub enum Move {
 }
 
 /// A cube of headers that two networks treat differently, with what each of the two does with them.
-#[derive(Drop)]
 pub struct Row {
     pub cube: Cube,
     pub old: Label,
     pub new: Label,
 }
 
+impl Drop for Row {
+    fn drop(self) {
+        let Row {
+            cube: _,
+            old: _,
+            new: _,
+        } = self;
+    }
+}
+
 /// The rows of one ingress.
-#[derive(Drop)]
 pub struct Section {
     /// The ingress.
     pub place: Place,
     pub rows: List<Row>,
+}
+
+impl Drop for Section {
+    fn drop(self) {
+        let Section { place: _, rows: _ } = self;
+    }
 }

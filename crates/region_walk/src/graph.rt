@@ -13,7 +13,6 @@ use std::marker::Model;
 use transfer_rel::{Prepared, Version};
 
 /// The walks of at most 254 moves of all headers of a cube that enter at a place.
-#[derive(Drop)]
 pub struct Graph<'a> {
     prepared: &'a Prepared<'a>,
     version: Version,
@@ -21,6 +20,19 @@ pub struct Graph<'a> {
     cube: Cube,
     visits: Vec<Visit>,
     levels: Vec<Level>,
+}
+
+impl<'a> Drop for Graph<'a> {
+    fn drop(self) {
+        let Graph {
+            prepared: _,
+            version: _,
+            place: _,
+            cube: _,
+            visits: _,
+            levels: _,
+        } = self;
+    }
 }
 
 impl<'a> Model for Graph<'a> {

@@ -16,7 +16,6 @@ pub struct Pattern {
 /// Rows of one ingress with equal outcomes, whose cubes are all that the patterns of the fields make.
 ///
 /// It stands for a row for each choice of one pattern of each field.
-#[derive(Drop)]
 pub struct Group {
     /// The patterns of the six fields of a header, in its order: dst, src, proto, dport, sport, flags.
     pub fields: List<List<Pattern>>,
@@ -26,14 +25,33 @@ pub struct Group {
     pub new: List<Outcome>,
 }
 
+impl Drop for Group {
+    fn drop(self) {
+        let Group {
+            fields: _,
+            old: _,
+            new: _,
+        } = self;
+    }
+}
+
 /// A group as a person reads it.
-#[derive(Drop)]
 pub struct Entry {
     /// What the change does to its packets.
     pub change: Change,
     /// Its headers.
     pub shown: Shown,
     pub group: Group,
+}
+
+impl Drop for Entry {
+    fn drop(self) {
+        let Entry {
+            change: _,
+            shown: _,
+            group: _,
+        } = self;
+    }
 }
 
 /// A group, with lists that can be taken out.
@@ -62,11 +80,19 @@ pub enum Part {
 }
 
 /// The values of a field as a person reads them: those of its parts, or all but these.
-#[derive(Drop)]
 pub struct Values {
     /// Whether all values are meant but those of the parts.
     pub negated: bool,
     pub parts: List<Part>,
+}
+
+impl Drop for Values {
+    fn drop(self) {
+        let Values {
+            negated: _,
+            parts: _,
+        } = self;
+    }
 }
 
 /// TCP's flags as a person reads them.
@@ -81,7 +107,6 @@ pub enum Flags {
 }
 
 /// The six fields of a group as a person reads them.
-#[derive(Drop)]
 pub struct Shown {
     pub dst: Values,
     pub src: Values,
@@ -89,6 +114,19 @@ pub struct Shown {
     pub dport: Values,
     pub sport: Values,
     pub flags: Flags,
+}
+
+impl Drop for Shown {
+    fn drop(self) {
+        let Shown {
+            dst: _,
+            src: _,
+            proto: _,
+            dport: _,
+            sport: _,
+            flags: _,
+        } = self;
+    }
 }
 
 /// What a change does to packets.

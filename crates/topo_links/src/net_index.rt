@@ -12,10 +12,18 @@ use net_types::{Interface, Loaded, NoMemory, Text};
 use std::alloc::Global;
 
 /// A network, with its devices and their interfaces by their names.
-#[derive(Drop)]
 pub struct NetIndex<'a> {
     pub devices: ByName<'a, Loaded>,
     pub interfaces: Vec<ByName<'a, Interface>>,
+}
+
+impl<'a> Drop for NetIndex<'a> {
+    fn drop(self) {
+        let NetIndex {
+            devices: _,
+            interfaces: _,
+        } = self;
+    }
 }
 
 /// The interfaces of a device by their names.

@@ -30,9 +30,14 @@ pub struct LinkLine {
 }
 
 /// The lines of a link table in their order, without blank lines and comments.
-#[derive(Drop)]
 pub struct LinkTable {
     pub lines: List<LinkLine>,
+}
+
+impl Drop for LinkTable {
+    fn drop(self) {
+        let LinkTable { lines: _ } = self;
+    }
 }
 
 /// Why a link table is refused.
