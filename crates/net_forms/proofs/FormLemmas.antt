@@ -142,26 +142,30 @@ seat_kept f g c i x k a = record { input = list_kept f g _ x.input k a.input; ou
 pub seats_kept : (f g : Functions) (c : Config) (is : List Interface) (xs : List SeatForm) → Keeps f g → AreSeatForms f c is xs → AreSeatForms g c is xs
 seats_kept f g c is xs k a = along_weaker (IsSeatForm f c) (IsSeatForm g c) is xs (λ i x r. seat_kept f g c i x k r) a
 
+tells_later : (a b : Functions) (f : ℕ) (rule : Header → Option ℕ) → Keeps a b → TellsRule a f rule → TellsRule b f rule
+tells_later a b f rule k t =
+    let n = k.count in
+    let l = t.below in
+    record { below = omega (arith, n, l); exact = λ h v. k.value f t.below (number h) ∙ t.exact h v }
+
+rules_kept : (a b : Functions) (nat : List NatRule) (r : RuleForms) → Keeps a b → AreRuleForms a nat r → AreRuleForms b nat r
+rules_kept a b nat r k t =
+    record {
+      outside = tells_later a b r.outside (rule_from_outside nat) k t.outside;
+      outer_outside = tells_later a b r.outer_outside (outer_from_outside nat) k t.outer_outside;
+      inside = tells_later a b r.inside (rule_from_inside nat) k t.inside;
+      outer_inside = tells_later a b r.outer_inside (outer_from_inside nat) k t.outer_inside;
+    }
+
 pub device_kept : (old new : Tables) (d : NetDevice) (f : DeviceForm) → TablesGrow old new → IsDeviceForm old.diagrams old.fates d f → IsDeviceForm new.diagrams new.fates d f
 device_kept old new d f g a =
     let k = g.diagrams in
     let c = k.count in
-    let bo = a.outside_below in
-    let boo = a.outer_outside_below in
-    let bi = a.inside_below in
-    let boi = a.outer_inside_below in
     let bf = a.fates_below in
     record {
       numbers = a.numbers;
       seats = seats_kept old.diagrams new.diagrams d.config d.config.interfaces f.seats.items k a.seats;
-      outside_below = omega (arith, c, bo);
-      outside = λ h v. k.value f.outside a.outside_below (number h) ∙ a.outside h v;
-      outer_outside_below = omega (arith, c, boo);
-      outer_outside = λ h v. k.value f.outer_outside a.outer_outside_below (number h) ∙ a.outer_outside h v;
-      inside_below = omega (arith, c, bi);
-      inside = λ h v. k.value f.inside a.inside_below (number h) ∙ a.inside h v;
-      outer_inside_below = omega (arith, c, boi);
-      outer_inside = λ h v. k.value f.outer_inside a.outer_inside_below (number h) ∙ a.outer_inside h v;
+      rules = rules_kept old.diagrams new.diagrams d.config.nat f.rules k a.rules;
       fates_below = omega (arith, c, bf);
       numbered = λ h v. subst (λ o. HasFate d.config new.fates o h.dst) (sym (k.value f.fates a.fates_below (number h))) (fate_kept d.config old.fates new.fates (value_at old.diagrams f.fates (number h)) h.dst g.fates (a.numbered h v));
     }
@@ -179,14 +183,7 @@ device_copied fs fates d f g i a =
     record {
       numbers = a.numbers;
       seats = subst (AreSeatForms fs d.config d.config.interfaces) (sym i.seats) a.seats;
-      outside_below = subst (λ n. n < count_of fs) (sym i.outside) a.outside_below;
-      outside = λ h v. ap (λ n. value_at fs n (number h)) i.outside ∙ a.outside h v;
-      outer_outside_below = subst (λ n. n < count_of fs) (sym i.outer_outside) a.outer_outside_below;
-      outer_outside = λ h v. ap (λ n. value_at fs n (number h)) i.outer_outside ∙ a.outer_outside h v;
-      inside_below = subst (λ n. n < count_of fs) (sym i.inside) a.inside_below;
-      inside = λ h v. ap (λ n. value_at fs n (number h)) i.inside ∙ a.inside h v;
-      outer_inside_below = subst (λ n. n < count_of fs) (sym i.outer_inside) a.outer_inside_below;
-      outer_inside = λ h v. ap (λ n. value_at fs n (number h)) i.outer_inside ∙ a.outer_inside h v;
+      rules = subst (AreRuleForms fs d.config.nat) (sym i.rules) a.rules;
       fates_below = subst (λ n. n < count_of fs) (sym i.fates) a.fates_below;
       numbered = λ h v. subst (λ n. HasFate d.config fates (value_at fs n (number h)) h.dst) (sym i.fates) (a.numbered h v);
     }
@@ -240,12 +237,6 @@ list_absent lists (Some m) e = not_found (λ l. same_text l.name m) lists e
 
 -- ---- a device, as its functions are added one after the other
 
-tells_later : (a b : Functions) (f : ℕ) (rule : Header → Option ℕ) → Keeps a b → TellsRule a f rule → TellsRule b f rule
-tells_later a b f rule k t =
-    let n = k.count in
-    let l = t.below in
-    record { below = omega (arith, n, l); exact = λ h v. k.value f t.below (number h) ∙ t.exact h v }
-
 -- the tables as each of the four functions is added
 pub rules_made : (b c d e : Functions) (nat : List NatRule) (r : RuleForms) → Keeps b c → Keeps c d → Keeps d e → TellsRule b r.outside (rule_from_outside nat) → TellsRule c r.outer_outside (outer_from_outside nat) → TellsRule d r.inside (rule_from_inside nat) → TellsRule e r.outer_inside (outer_from_inside nat) → AreRuleForms e nat r
 rules_made b c d e nat r bc cd de tb tc td te =
@@ -264,24 +255,13 @@ tells_by fs f pieces rule b e r = record { below = b; exact = λ h v. e (number 
 
 module _ (x : NetDevice) (f : DeviceForm) where
   -- the tables after the lists, after the rules, and after the fates
-  pub device_made : (a e z : Functions) (fates : List Fate) → length x.config.interfaces ≤ length x.numbers → AreSeatForms a x.config x.config.interfaces f.seats.items → Keeps a e → Keeps e z → TellsRule e f.outside (rule_from_outside x.config.nat) → TellsRule e f.outer_outside (outer_from_outside x.config.nat) → TellsRule e f.inside (rule_from_inside x.config.nat) → TellsRule e f.outer_inside (outer_from_inside x.config.nat) → f.fates < count_of z → ((h : Header) → IsHeader h → HasFate x.config fates (value_at z f.fates (number h)) h.dst) → IsDeviceForm z fates x f
-  device_made a e z fates numbers seats ae ez to too ti toi bf fate =
+  pub device_made : (a e z : Functions) (fates : List Fate) → length x.config.interfaces ≤ length x.numbers → AreSeatForms a x.config x.config.interfaces f.seats.items → Keeps a e → Keeps e z → AreRuleForms e x.config.nat f.rules → f.fates < count_of z → ((h : Header) → IsHeader h → HasFate x.config fates (value_at z f.fates (number h)) h.dst) → IsDeviceForm z fates x f
+  device_made a e z fates numbers seats ae ez rules bf fate =
       let az = keeps_then a e z ae ez in
-      let outside = tells_later e z f.outside (rule_from_outside x.config.nat) ez to in
-      let outer_outside = tells_later e z f.outer_outside (outer_from_outside x.config.nat) ez too in
-      let inside = tells_later e z f.inside (rule_from_inside x.config.nat) ez ti in
-      let outer_inside = tells_later e z f.outer_inside (outer_from_inside x.config.nat) ez toi in
       record {
         numbers = numbers;
         seats = seats_kept a z x.config x.config.interfaces f.seats.items az seats;
-        outside_below = outside.below;
-        outside = outside.exact;
-        outer_outside_below = outer_outside.below;
-        outer_outside = outer_outside.exact;
-        inside_below = inside.below;
-        inside = inside.exact;
-        outer_inside_below = outer_inside.below;
-        outer_inside = outer_inside.exact;
+        rules = rules_kept e z x.config.nat f.rules ez rules;
         fates_below = bf;
         numbered = fate;
       }

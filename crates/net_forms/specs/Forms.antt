@@ -13,7 +13,6 @@ use Rattle.net_types.specs.Moves.{list_named}
 use Rattle.net_types.specs.Routes.{same_text}
 use Rattle.net_types.specs.World.{Seat}
 use Rattle.acl_match.specs.Lists.{number_of}
-use Rattle.nat_static.specs.Rules.{rule_from_outside, rule_from_inside, outer_from_outside, outer_from_inside}
 use Rattle.device_fates.specs.declared.fate.Fate.{Fate}
 use Rattle.hdr_bits.specs.Lists.{Extends}
 use Rattle.device_fates.specs.Fates.{HasFate}
@@ -22,6 +21,7 @@ use Rattle.net_forms.specs.declared.forms.KnownList.{KnownList}
 use Rattle.net_forms.specs.declared.forms.SeatForm.{SeatForm}
 use Rattle.net_forms.specs.declared.forms.Tables.{Tables}
 use Rattle.net_forms.specs.Along.{AreAlong}
+use Rattle.net_forms.specs.Rules.{AreRuleForms}
 
 -- the function gives a header 1 where the list passes it, and else 0
 pub record IsList (fs : Functions) (list : Option AccessList) (function : ℕ) : Type 0 where
@@ -49,14 +49,7 @@ AreSeatForms fs c interfaces seats = AreAlong (IsSeatForm fs c) interfaces seats
 pub record IsDeviceForm (fs : Functions) (fates : List Fate) (d : NetDevice) (f : DeviceForm) : Type 0 where
   pub numbers : length d.config.interfaces ≤ length d.numbers
   pub seats : AreSeatForms fs d.config d.config.interfaces f.seats.items
-  pub outside_below : f.outside < count_of fs
-  pub outside : (h : Header) → IsHeader h → value_at fs f.outside (number h) ≡ rule_from_outside d.config.nat h
-  pub outer_outside_below : f.outer_outside < count_of fs
-  pub outer_outside : (h : Header) → IsHeader h → value_at fs f.outer_outside (number h) ≡ outer_from_outside d.config.nat h
-  pub inside_below : f.inside < count_of fs
-  pub inside : (h : Header) → IsHeader h → value_at fs f.inside (number h) ≡ rule_from_inside d.config.nat h
-  pub outer_inside_below : f.outer_inside < count_of fs
-  pub outer_inside : (h : Header) → IsHeader h → value_at fs f.outer_inside (number h) ≡ outer_from_inside d.config.nat h
+  pub rules : AreRuleForms fs d.config.nat f.rules
   pub fates_below : f.fates < count_of fs
   pub numbered : (h : Header) → IsHeader h → HasFate d.config fates (value_at fs f.fates (number h)) h.dst
 

@@ -41,10 +41,7 @@ pub record IsFormIn (n : NetworkForm) (d : NetDevice) (f : DeviceForm) : Type 0 
 -- the second form has the functions of the first
 pub record IsCopy (f g : DeviceForm) : Type 0 where
   pub seats : g.seats.items ≡ f.seats.items
-  pub outside : g.outside ≡ f.outside
-  pub outer_outside : g.outer_outside ≡ f.outer_outside
-  pub inside : g.inside ≡ f.inside
-  pub outer_inside : g.outer_inside ≡ f.outer_inside
+  pub rules : g.rules ≡ f.rules
   pub fates : g.fates ≡ f.fates
 
 -- the devices with these names do the same in both networks

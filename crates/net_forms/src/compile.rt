@@ -160,10 +160,7 @@ fn copy_of(alloc: Global, form: &DeviceForm) -> Result<DeviceForm, NoMemory>
     let seats = form.seats.to_vec(alloc)?;
     Ok(DeviceForm {
         seats,
-        outside: form.outside,
-        outer_outside: form.outer_outside,
-        inside: form.inside,
-        outer_inside: form.outer_inside,
+        rules: form.rules,
         fates: form.fates,
     })
 }
@@ -189,10 +186,7 @@ pub fn compile_device(
     let fates = add_fates(alloc, tables, config, parts.fates)?;
     Ok(DeviceForm {
         seats,
-        outside: rules.outside,
-        outer_outside: rules.outer_outside,
-        inside: rules.inside,
-        outer_inside: rules.outer_inside,
+        rules,
         fates,
     })
 }

@@ -70,20 +70,9 @@ pub struct KnownParts<'a> {
     pub fates: Option<u32>,
 }
 
-/// The functions of a device's translation rules, as its form has them.
+/// The functions of a device's translation rules.
 #[derive(Clone, Copy)]
-pub(crate) struct RuleForms {
-    pub(crate) outside: u32,
-    pub(crate) outer_outside: u32,
-    pub(crate) inside: u32,
-    pub(crate) outer_inside: u32,
-}
-
-/// The functions of a device.
-#[derive(Drop)]
-pub struct DeviceForm {
-    /// By the positions of its interfaces.
-    pub seats: Vec<SeatForm>,
+pub struct RuleForms {
     /// The number of the port or plain rule that replaces the destination from outside; no value where none does.
     pub outside: u32,
     /// The number of the outer rule that replaces the source from outside.
@@ -92,6 +81,15 @@ pub struct DeviceForm {
     pub inside: u32,
     /// The number of the outer rule that replaces the destination from inside.
     pub outer_inside: u32,
+}
+
+/// The functions of a device.
+#[derive(Drop)]
+pub struct DeviceForm {
+    /// By the positions of its interfaces.
+    pub seats: Vec<SeatForm>,
+    /// Of its translation rules.
+    pub rules: RuleForms,
     /// The number of the fate of the destination.
     pub fates: u32,
 }

@@ -16,7 +16,8 @@ mod version;
 pub use compile::{compile_device, compile_network};
 pub use formed::FormedNetwork;
 pub use forms::{
-    Beforehand, DeviceForm, DeviceLists, KnownList, KnownParts, NetworkForm, SeatForm, Tables,
+    Beforehand, DeviceForm, DeviceLists, KnownList, KnownParts, NetworkForm, RuleForms, SeatForm,
+    Tables,
 };
 pub use networks::Networks;
 pub use prepared::{BothForms, Prepared, PreparedParts};

@@ -14,13 +14,23 @@ use std::alloc::Global;
 use std::marker::Model;
 
 /// Two networks, compiled in one table.
-#[derive(Drop)]
 pub struct Prepared<'a> {
     tables: Tables,
     old: NetworkForm<'a>,
     new: NetworkForm<'a>,
     /// The names of devices that are known to do the same in both.
     like: IndexSet<u32>,
+}
+
+impl<'a> Drop for Prepared<'a> {
+    fn drop(self) {
+        let Prepared {
+            tables: _,
+            old: _,
+            new: _,
+            like: _,
+        } = self;
+    }
 }
 
 impl<'a> Model for Prepared<'a> {
@@ -110,11 +120,17 @@ impl<'a> Prepared<'a> {
     pub fn into_parts(self) -> PreparedParts<'a>
         ensures { ArePreparedParts self.entry result }
     {
+        let Prepared {
+            tables,
+            old,
+            new,
+            like,
+        } = self;
         PreparedParts {
-            tables: self.tables,
-            old: self.old,
-            new: self.new,
-            like: self.like,
+            tables,
+            old,
+            new,
+            like,
         }
     }
 

@@ -67,8 +67,8 @@ fn add_let_in(
     let outside = Translation {
         device: at.seat.device,
         from_outside: true,
-        rule: at.device.outside,
-        outer: at.device.outer_outside,
+        rule: at.device.rules.outside,
+        outer: at.device.rules.outer_outside,
     };
     let translated = is_outside(at.seat.interface.side);
     let parts = parts_of(alloc, table, outside, translated, given)?;

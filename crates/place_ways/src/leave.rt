@@ -129,8 +129,8 @@ fn add_out(
     let inside = Translation {
         device: leaving.at.seat.device,
         from_outside: false,
-        rule: leaving.at.device.inside,
-        outer: leaving.at.device.outer_inside,
+        rule: leaving.at.device.rules.inside,
+        outer: leaving.at.device.rules.outer_inside,
     };
     let translated = goes_outside(leaving);
     let parts = parts_of(alloc, table, inside, translated, given)?;

@@ -119,8 +119,8 @@ fn go_out(at: CompiledSeat, out: FormedSeat, cube: &Cube) -> OnCube<Stamped>
         let rules = at.seat.device.config.nat.as_slice();
         return translate_out(
             &at.tables.diagrams,
-            at.device.inside,
-            at.device.outer_inside,
+            at.device.rules.inside,
+            at.device.rules.outer_inside,
             rules,
             cube,
         );

@@ -18,8 +18,7 @@ add_fates-requires c =
 pub returns-clause-form : goal.returns-clause-form
 returns-clause-form c =
     let same = c.args.device.now.numbered in
-    let rules = rw c.as_slice.ensures at c.in_ok-rules.ensures.rules in
     device_made c.args.device.now _ c.compile_seats.new.diagrams c.compile_rules.new.diagrams c.add_fates.new.tables.diagrams c.add_fates.new.tables.fates (omega (arith, same))
     c.in_ok-seats.ensures.seats c.in_ok-rules.ensures.kept c.in_ok-fates.ensures.kept.diagrams
-    rules.outside rules.outer_outside rules.inside rules.outer_inside
+    (rw c.as_slice.ensures at c.in_ok-rules.ensures.rules)
     c.in_ok-fates.ensures.below c.in_ok-fates.ensures.exact

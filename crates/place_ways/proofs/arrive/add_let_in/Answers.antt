@@ -13,8 +13,8 @@ use Rattle.place_ways.proofs.arrive.add_let_in.Goals as goal
 
 pub parts_of-requires-clause-translation : goal.parts_of-requires-clause-translation
 parts_of-requires-clause-translation c =
-    let d = c.requires.at.device in
-    record { rule_below = d.outside_below; rule = d.outside; outer_below = d.outer_outside_below; outer = d.outer_outside }
+    let r = c.requires.at.device.rules in
+    record { rule_below = r.outside.below; rule = r.outside.exact; outer_below = r.outer_outside.below; outer = r.outer_outside.exact }
 
 pub add_parts-requires-clause-base : goal.add_parts-requires-clause-base
 add_parts-requires-clause-base c = given_kept c.args.table.now c.parts_of.new.table c.args.base.now c.in_ok-parts.ensures.kept c.requires.base.given

@@ -14,8 +14,8 @@ use Rattle.place_ways.proofs.leave.add_out.Goals as goal
 
 pub parts_of-requires-clause-translation : goal.parts_of-requires-clause-translation
 parts_of-requires-clause-translation c =
-    let d = c.requires.at.device in
-    record { rule_below = d.inside_below; rule = d.inside; outer_below = d.outer_inside_below; outer = d.outer_inside }
+    let r = c.requires.at.device.rules in
+    record { rule_below = r.inside.below; rule = r.inside.exact; outer_below = r.outer_inside.below; outer = r.outer_inside.exact }
 
 pub add_parts-requires-clause-out : goal.add_parts-requires-clause-out
 add_parts-requires-clause-out c =
