@@ -7,7 +7,6 @@ use net_types::{Answer, NoMemory};
 use std::alloc::Global;
 
 /// A question with its answers.
-#[derive(Drop)]
 pub struct Answered {
     /// Its place among the questions, from 1.
     pub number: u64,
@@ -15,6 +14,17 @@ pub struct Answered {
     /// The answer before, where one was given.
     pub before: Option<Answer>,
     pub after: Answer,
+}
+
+impl Drop for Answered {
+    fn drop(self) {
+        let Answered {
+            number: _,
+            question: _,
+            before: _,
+            after: _,
+        } = self;
+    }
 }
 
 /// The questions, each with its answers.

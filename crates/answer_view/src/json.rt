@@ -10,7 +10,8 @@ use crate::groups::{Group, count_in, group_name, group_of, groups_of};
 use crate::packet::append_packet;
 use hdr_bits::Header;
 use net_types::{Answer, NoMemory};
-use report_text::{append, append_number};
+use report_text::TextPart::{Bytes, Number};
+use report_text::{append, append_all, append_number};
 use std::alloc::Global;
 use view_core::{append_header_members, append_member};
 
@@ -81,10 +82,15 @@ fn append_group_count(
 ) -> Result<(), NoMemory>
     ensures { OnOk result (out.new.items ≡ out.old.items ++ count_member answered.now group) }
 {
-    append(out, b"\"")?;
-    append(out, group_name(group))?;
-    append(out, b"\": ")?;
-    append_number(out, count_in(answered, group))
+    append_all(
+        out,
+        &[
+            Bytes(b"\""),
+            Bytes(group_name(group)),
+            Bytes(b"\": "),
+            Number(count_in(answered, group) as u128),
+        ],
+    )
 }
 
 fn append_questions(alloc: Global, out: &mut Vec<u8>, answered: &[Answered]) -> Result<(), NoMemory>
@@ -133,11 +139,16 @@ fn append_answer_members(
 fn append_question_members(out: &mut Vec<u8>, answered: &Answered) -> Result<(), NoMemory>
     ensures { OnOk result (out.new.items ≡ out.old.items ++ question_members answered.now) }
 {
-    append(out, b"\"number\": ")?;
-    append_number(out, answered.number)?;
-    append(out, b", \"line\": ")?;
-    append_number(out, answered.question.line)?;
-    append(out, b", ")?;
+    append_all(
+        out,
+        &[
+            Bytes(b"\"number\": "),
+            Number(answered.number.into()),
+            Bytes(b", \"line\": "),
+            Number(answered.question.line.into()),
+            Bytes(b", "),
+        ],
+    )?;
     append_member(out, b"question", answered.question.words.as_bytes())
 }
 

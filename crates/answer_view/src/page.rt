@@ -10,7 +10,7 @@ use crate::packet::append_packet;
 use crate::text::append_name;
 use net_types::{Answer, NoMemory};
 use std::alloc::Global;
-use view_core::{Markup, Sheet, page_with};
+use view_core::{Markup, Part, Sheet, page_with};
 
 const TITLE: &[u8] = b"Answers to questions";
 
@@ -35,22 +35,28 @@ pub(crate) fn page_bytes(
 }
 
 fn add_summary(page: &mut Sheet, compared: bool, answered: &[Answered]) -> Result<(), NoMemory> {
-    page.markup(Markup::Head)?;
-    page.text(TITLE)?;
-    page.markup(Markup::Style)?;
-    page.text(TITLE)?;
-    page.markup(Markup::Summary)?;
-    page.markup(Markup::Some)?;
-    page.text(b"questions ")?;
-    page.number(answered.len() as u64)?;
+    page.parts(&[
+        Part::Markup(Markup::Head),
+        Part::Text(TITLE),
+        Part::Markup(Markup::Style),
+        Part::Text(TITLE),
+        Part::Markup(Markup::Summary),
+        Part::Markup(Markup::Some),
+        Part::Text(b"questions "),
+        Part::Number(answered.len() as u64),
+    ])?;
     for group in groups_of(compared) {
-        page.text(b", ")?;
-        page.text(group_name(*group))?;
-        page.markup(Markup::Blank)?;
-        page.number(count_in(answered, *group) as u64)?;
+        page.parts(&[
+            Part::Text(b", "),
+            Part::Text(group_name(*group)),
+            Part::Markup(Markup::Blank),
+            Part::Number(count_in(answered, *group) as u64),
+        ])?;
     }
-    page.markup(Markup::SummaryEnd)?;
-    page.markup(Markup::SectionEnd)
+    page.parts(&[
+        Part::Markup(Markup::SummaryEnd),
+        Part::Markup(Markup::SectionEnd),
+    ])
 }
 
 fn add_group(
@@ -59,9 +65,11 @@ fn add_group(
     answered: &[Answered],
     group: Group,
 ) -> Result<(), NoMemory> {
-    page.markup(Markup::List)?;
-    page.text(group_name(group))?;
-    page.markup(Markup::ListFindings)?;
+    page.parts(&[
+        Part::Markup(Markup::List),
+        Part::Text(group_name(group)),
+        Part::Markup(Markup::ListFindings),
+    ])?;
     for one in answered {
         if is_in(group, one) {
             add_question(alloc, page, one)?;
@@ -81,8 +89,10 @@ fn add_question(alloc: Global, page: &mut Sheet, answered: &Answered) -> Result<
         add_packet(alloc, page, b"packet before: ", before)?;
     }
     add_packet(alloc, page, b"packet: ", &answered.after)?;
-    page.markup(Markup::ItemsEnd)?;
-    page.markup(Markup::ItemEnd)
+    page.parts(&[
+        Part::Markup(Markup::ItemsEnd),
+        Part::Markup(Markup::ItemEnd),
+    ])
 }
 
 fn add_packet(

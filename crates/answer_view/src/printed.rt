@@ -4,7 +4,8 @@ ghost use Rattle.answer_view.specs.AnswerText.{answer_text, answers_from, answer
 
 use hdr_bits::Header;
 use net_types::{Answer, NoMemory};
-use report_text::{append, append_number, header_bytes};
+use report_text::TextPart::{Bytes, Number};
+use report_text::{append, append_all, append_number, header_bytes};
 use std::alloc::Global;
 
 /// The text of these answers.
@@ -63,16 +64,19 @@ fn append_header(alloc: Global, out: &mut Vec<u8>, header: &Header) -> Result<()
     ensures { OnOk result (out.new.items ≡ out.old.items ++ fails_text header.now) }
 {
     let header = header_bytes(alloc, header)?;
-    append(out, b" fails ")?;
-    append(out, &header)?;
-    append(out, b"\n")
+    append_all(out, &[Bytes(b" fails "), Bytes(&header), Bytes(b"\n")])
 }
 
 #[tactic(auto, unfolding(crate::specs::AnswerText::failed_text))]
 fn append_failed(out: &mut Vec<u8>, answers: &[Answer]) -> Result<(), NoMemory>
     ensures { OnOk result (out.new.items ≡ out.old.items ++ failed_text answers.now) }
 {
-    append(out, b"failed ")?;
-    append_number(out, failed_count(answers))?;
-    append(out, b"\n")
+    append_all(
+        out,
+        &[
+            Bytes(b"failed "),
+            Number(failed_count(answers) as u128),
+            Bytes(b"\n"),
+        ],
+    )
 }

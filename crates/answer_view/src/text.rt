@@ -7,7 +7,8 @@ use crate::answered::Answered;
 use crate::groups::{Group, count_in, group_name, groups_of, is_in, is_listed};
 use crate::packet::append_packet;
 use net_types::{Answer, NoMemory};
-use report_text::{append, append_number};
+use report_text::TextPart::{Bytes, Number};
+use report_text::{append, append_all};
 use std::alloc::Global;
 
 // Each function adds a text at the end. Where memory runs out, a part of the text may stand there.
@@ -31,9 +32,14 @@ pub(crate) fn view_bytes(
 fn append_head(out: &mut Vec<u8>, compared: bool, answered: &[Answered]) -> Result<(), NoMemory>
     ensures { OnOk result (out.new.items ≡ out.old.items ++ head_text compared answered.now) }
 {
-    append(out, b"questions ")?;
-    append_number(out, answered.len())?;
-    append(out, b": ")?;
+    append_all(
+        out,
+        &[
+            Bytes(b"questions "),
+            Number(answered.len() as u128),
+            Bytes(b": "),
+        ],
+    )?;
     append_counts(out, answered, groups_of(compared))?;
     append(out, b"\n")
 }
@@ -56,9 +62,14 @@ fn append_counts(out: &mut Vec<u8>, answered: &[Answered], groups: &[Group]) -> 
 fn append_count(out: &mut Vec<u8>, answered: &[Answered], group: Group) -> Result<(), NoMemory>
     ensures { OnOk result (out.new.items ≡ out.old.items ++ count_text answered.now group) }
 {
-    append(out, group_name(group))?;
-    append(out, b" ")?;
-    append_number(out, count_in(answered, group))
+    append_all(
+        out,
+        &[
+            Bytes(group_name(group)),
+            Bytes(b" "),
+            Number(count_in(answered, group) as u128),
+        ],
+    )
 }
 
 fn append_groups(
@@ -100,9 +111,7 @@ fn append_group(
 ) -> Result<(), NoMemory>
     ensures { OnOk result (out.new.items ≡ out.old.items ++ group_text answered.now group) }
 {
-    append(out, b"\n")?;
-    append(out, group_name(group))?;
-    append(out, b"\n")?;
+    append_all(out, &[Bytes(b"\n"), Bytes(group_name(group)), Bytes(b"\n")])?;
     append_questions(alloc, out, answered, group)
 }
 
@@ -152,11 +161,16 @@ fn append_question(alloc: Global, out: &mut Vec<u8>, answered: &Answered) -> Res
 pub(crate) fn append_name(out: &mut Vec<u8>, answered: &Answered) -> Result<(), NoMemory>
     ensures { OnOk result (out.new.items ≡ out.old.items ++ name_text answered.now) }
 {
-    append_number(out, answered.number)?;
-    append(out, b" (line ")?;
-    append_number(out, answered.question.line)?;
-    append(out, b"): ")?;
-    append(out, answered.question.words.as_bytes())
+    append_all(
+        out,
+        &[
+            Number(answered.number.into()),
+            Bytes(b" (line "),
+            Number(answered.question.line.into()),
+            Bytes(b"): "),
+            Bytes(answered.question.words.as_bytes()),
+        ],
+    )
 }
 
 fn append_before(alloc: Global, out: &mut Vec<u8>, before: &Option<Answer>) -> Result<(), NoMemory>
@@ -181,9 +195,7 @@ fn append_packet_line(
     match answer {
         Answer::Holds => Ok(()),
         Answer::Fails { header } => {
-            append(out, b"    packet")?;
-            append(out, side)?;
-            append(out, b": ")?;
+            append_all(out, &[Bytes(b"    packet"), Bytes(side), Bytes(b": ")])?;
             append_packet(alloc, out, header)?;
             append(out, b"\n")
         }

@@ -1,4 +1,5 @@
 pub mod FieldText
+pub mod Parts
 pub mod ReportText
 pub mod Readings
 pub mod Reports

@@ -10,10 +10,6 @@ use Rattle.net_types.specs.declared.config.Route.{Route}
 abbrev pub entry_count : List AccessList → ℕ
 entry_count lists = sum_by (λ l. length l.entries) lists
 
--- the file and the hostname
-unfoldable pub host_text : Loaded → List ℕ
-host_text l = l.file ++ codes " " ++ l.config.hostname
-
 -- interfaces
 unfoldable pub interfaces_text : List Interface → List ℕ
 interfaces_text interfaces = codes " interfaces " ++ decimal (length interfaces)
@@ -22,16 +18,11 @@ interfaces_text interfaces = codes " interfaces " ++ decimal (length interfaces)
 unfoldable pub routes_text : List Route → List ℕ
 routes_text routes = codes " routes " ++ decimal (length routes)
 
--- access lists and their entries
-unfoldable pub lists_text : List AccessList → List ℕ
-lists_text lists =
-    codes " lists " ++ decimal (length lists)
-    ++ codes " entries " ++ decimal (entry_count lists)
-
--- lists and translation rules, and how many lines were passed over
+-- access lists with their entries, translation rules, and how many lines were passed over
 unfoldable pub rules_text : Loaded → List ℕ
 rules_text l =
-    lists_text l.config.lists
+    codes " lists " ++ decimal (length l.config.lists)
+    ++ codes " entries " ++ decimal (entry_count l.config.lists)
     ++ codes " nat " ++ decimal (length l.config.nat)
     ++ codes " passed " ++ decimal l.passed
     ++ codes "\n"
@@ -40,9 +31,9 @@ rules_text l =
 unfoldable pub counts_text : Loaded → List ℕ
 counts_text l = interfaces_text l.config.interfaces ++ routes_text l.config.routes ++ rules_text l
 
--- a line
+-- a line: the file, the hostname and that
 unfoldable pub reading_text : Loaded → List ℕ
-reading_text l = host_text l ++ counts_text l
+reading_text l = l.file ++ codes " " ++ l.config.hostname ++ counts_text l
 
 -- a line for each configuration, in the order of the files
 abbrev pub readings_text : List Loaded → List ℕ

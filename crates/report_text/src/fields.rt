@@ -4,6 +4,8 @@ ghost use Rattle.std.specs.Prelude.{◌≡◌, ◌-◌, ◌^◌, ◌≤◌, ◌<
 ghost use Rattle.report_text.specs.FieldText.{address_text, ternary_text, prefix_length, address_field_text, number_field_text, digit_text, partial_text};
 ghost use Rattle.std.specs.Int.{bit_at};
 
+use crate::parts::TextPart::{Bytes, Number};
+use crate::parts::append_all;
 use itoa::{Buffer, Integer};
 use net_types::NoMemory;
 use std::alloc::Global;
@@ -47,13 +49,18 @@ pub fn append_number<I: Integer>(out: &mut Vec<u8>, number: I) -> Result<(), NoM
 pub fn append_address(out: &mut Vec<u8>, address: u32) -> Result<(), NoMemory>
     ensures { OnOk result (out.new.items ≡ out.old.items ++ address_text address) }
 {
-    append_number(out, address >> 24)?;
-    append(out, b".")?;
-    append_number(out, address >> 16 & 0xff)?;
-    append(out, b".")?;
-    append_number(out, address >> 8 & 0xff)?;
-    append(out, b".")?;
-    append_number(out, address & 0xff)
+    append_all(
+        out,
+        &[
+            Number((address >> 24).into()),
+            Bytes(b"."),
+            Number((address >> 16 & 0xff).into()),
+            Bytes(b"."),
+            Number((address >> 8 & 0xff).into()),
+            Bytes(b"."),
+            Number((address & 0xff).into()),
+        ],
+    )
 }
 
 // Place `k` from the least significant one, as a ternary digit.

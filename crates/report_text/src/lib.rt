@@ -15,6 +15,7 @@ mod field_reader;
 mod fields;
 mod label_reader;
 mod names;
+mod parts;
 mod reader;
 mod readings;
 mod report;
@@ -27,6 +28,7 @@ pub use fields::{
     append_number_field, append_ternary, decimal_bytes,
 };
 pub use names::are_names;
+pub use parts::{TextPart, append_all};
 pub use reader::{ReportFail, read_report};
 pub use readings::readings_bytes;
-pub use report::{label_bytes, outcome_bytes, report_bytes, summary_bytes};
+pub use report::{append_place, label_bytes, name_of, outcome_bytes, report_bytes, summary_bytes};

@@ -1,9 +1,11 @@
 //! What was read of each configuration, as a line: the file, the hostname, and how many things there are of each kind.
 
 ghost use Rattle.std.specs.Prelude.{◌≡◌, ◌++◌, IfOk, OnOk};
-ghost use Rattle.report_text.specs.Readings.{entry_count, host_text, interfaces_text, routes_text, lists_text, rules_text, counts_text, reading_text, readings_text};
+ghost use Rattle.report_text.specs.Readings.{entry_count, counts_text, interfaces_text, reading_text, readings_text, routes_text, rules_text};
 
 use crate::fields::{append, append_number};
+use crate::parts::TextPart::{Bytes, Number};
+use crate::parts::append_all;
 use net_types::{AccessList, Interface, Loaded, NoMemory, Route};
 use std::alloc::Global;
 
@@ -26,21 +28,13 @@ pub fn readings_bytes(alloc: Global, devices: &[Loaded]) -> Result<Vec<u8>, NoMe
 fn append_reading(out: &mut Vec<u8>, loaded: &Loaded) -> Result<(), NoMemory>
     ensures { OnOk result (out.new.items ≡ out.old.items ++ reading_text loaded.now) }
 {
-    append_host(out, loaded)?;
+    append(out, loaded.file.as_bytes())?;
+    append(out, b" ")?;
+    append(out, loaded.config.hostname.as_bytes())?;
     append_counts(out, loaded)
 }
 
-// The file and the hostname.
-#[tactic(auto, unfolding(crate::specs::Readings::host_text))]
-fn append_host(out: &mut Vec<u8>, loaded: &Loaded) -> Result<(), NoMemory>
-    ensures { OnOk result (out.new.items ≡ out.old.items ++ host_text loaded.now) }
-{
-    append(out, loaded.file.as_bytes())?;
-    append(out, b" ")?;
-    append(out, loaded.config.hostname.as_bytes())
-}
-
-// What there is of each kind.
+// How much there is of each kind; and what was passed over.
 #[tactic(auto, unfolding(crate::specs::Readings::counts_text))]
 fn append_counts(out: &mut Vec<u8>, loaded: &Loaded) -> Result<(), NoMemory>
     ensures { OnOk result (out.new.items ≡ out.old.items ++ counts_text loaded.now) }
@@ -71,22 +65,21 @@ fn append_routes(out: &mut Vec<u8>, routes: &[Route]) -> Result<(), NoMemory>
 fn append_rules(out: &mut Vec<u8>, loaded: &Loaded) -> Result<(), NoMemory>
     ensures { OnOk result (out.new.items ≡ out.old.items ++ rules_text loaded.now) }
 {
-    append_lists(out, loaded.config.lists.as_slice())?;
-    append(out, b" nat ")?;
-    append_number(out, loaded.config.nat.as_slice().len())?;
-    append(out, b" passed ")?;
-    append_number(out, loaded.passed)?;
-    append(out, b"\n")
-}
-
-#[tactic(auto, unfolding(crate::specs::Readings::lists_text))]
-fn append_lists(out: &mut Vec<u8>, lists: &[AccessList]) -> Result<(), NoMemory>
-    ensures { OnOk result (out.new.items ≡ out.old.items ++ lists_text lists.now) }
-{
-    append(out, b" lists ")?;
-    append_number(out, lists.len())?;
-    append(out, b" entries ")?;
-    append_number(out, entry_count(lists))
+    let config = &loaded.config;
+    append_all(
+        out,
+        &[
+            Bytes(b" lists "),
+            Number(config.lists.as_slice().len() as u128),
+            Bytes(b" entries "),
+            Number(entry_count(config.lists.as_slice())),
+            Bytes(b" nat "),
+            Number(config.nat.as_slice().len() as u128),
+            Bytes(b" passed "),
+            Number(loaded.passed.into()),
+            Bytes(b"\n"),
+        ],
+    )
 }
 
 fn entry_count(lists: &[AccessList]) -> u128

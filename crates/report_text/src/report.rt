@@ -6,6 +6,8 @@ ghost use Rattle.report_text.specs.ReportText.{name_text, place_text, change_tex
 
 use crate::cubes::append_cube;
 use crate::fields::{append, append_address, append_number};
+use crate::parts::TextPart::{Bytes, Number};
+use crate::parts::append_all;
 use net_types::{Label, Names, NoMemory, Outcome, Place, Row, Section};
 use std::alloc::Global;
 
@@ -59,11 +61,16 @@ pub fn summary_bytes(
     ensures { IfOk result (λ text. text.items ≡ summary_text devices sections.now) }
 {
     let mut text = Vec::new(alloc);
-    append(&mut text, b"devices ")?;
-    append_number(&mut text, devices)?;
-    append(&mut text, b"\ningresses ")?;
-    append_number(&mut text, sections.len())?;
-    append(&mut text, b"\n")?;
+    append_all(
+        &mut text,
+        &[
+            Bytes(b"devices "),
+            Number(devices as u128),
+            Bytes(b"\ningresses "),
+            Number(sections.len() as u128),
+            Bytes(b"\n"),
+        ],
+    )?;
     append_affected(&mut text, sections)?;
     Ok(text)
 }
@@ -73,9 +80,14 @@ pub fn summary_bytes(
 fn append_affected(out: &mut Vec<u8>, sections: &[Section]) -> Result<(), NoMemory>
     ensures { OnOk result (out.new.items ≡ out.old.items ++ affected_text sections.now) }
 {
-    append(out, b"affected ")?;
-    append_number(out, row_count(sections))?;
-    append(out, b"\n")
+    append_all(
+        out,
+        &[
+            Bytes(b"affected "),
+            Number(row_count(sections)),
+            Bytes(b"\n"),
+        ],
+    )
 }
 
 fn row_count(sections: &[Section]) -> u128
@@ -88,22 +100,29 @@ fn row_count(sections: &[Section]) -> u128
     rows
 }
 
-fn append_name(out: &mut Vec<u8>, names: &Names, number: u32) -> Result<(), NoMemory>
-    ensures { OnOk result (out.new.items ≡ out.old.items ++ name_text names.now number) }
+/// The name of this number; nothing where there is none.
+pub fn name_of(names: &Names, number: u32) -> &[u8]
+    ensures { result.now ≡ name_text names.now number }
 {
     match names.texts.as_slice().get(number as usize) {
-        Some(text) => append(out, text.as_bytes()),
-        None => Ok(()),
+        Some(text) => text.as_bytes(),
+        None => &[],
     }
 }
 
+/// Adds the names of a place at the end. Where memory runs out, a part of them may stand there.
 #[tactic(auto, unfolding(crate::specs::ReportText::place_text))]
-fn append_place(out: &mut Vec<u8>, names: &Names, place: Place) -> Result<(), NoMemory>
+pub fn append_place(out: &mut Vec<u8>, names: &Names, place: Place) -> Result<(), NoMemory>
     ensures { OnOk result (out.new.items ≡ out.old.items ++ place_text names.now place) }
 {
-    append_name(out, names, place.device)?;
-    append(out, b" ")?;
-    append_name(out, names, place.interface)
+    append_all(
+        out,
+        &[
+            Bytes(name_of(names, place.device)),
+            Bytes(b" "),
+            Bytes(name_of(names, place.interface)),
+        ],
+    )
 }
 
 fn append_new_address(out: &mut Vec<u8>, name: &[u8], address: Option<u32>) -> Result<(), NoMemory>
@@ -200,8 +219,9 @@ fn append_section(out: &mut Vec<u8>, names: &Names, section: &Section) -> Result
     let rows = section.rows.as_slice();
     append(out, b"ingress ")?;
     append_place(out, names, section.place)?;
-    append(out, b" rows ")?;
-    append_number(out, rows.len())?;
-    append(out, b"\n")?;
+    append_all(
+        out,
+        &[Bytes(b" rows "), Number(rows.len() as u128), Bytes(b"\n")],
+    )?;
     append_rows(out, names, rows)
 }

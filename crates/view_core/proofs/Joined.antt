@@ -1,5 +1,5 @@
 -- Texts that are added one after the other.
-use Rattle.std.proofs.Common.{◌≡◌, ℕ, List, [], ◌++◌, ap, ◌∙◌, append_assoc}
+use Rattle.std.proofs.Common.{◌≡◌, ℕ, List, ◌++◌, ap, ◌∙◌, append_assoc}
 
 pub two_more : (o a b x y : List ℕ) → x ≡ o ++ a → y ≡ x ++ b → y ≡ o ++ (a ++ b)
 two_more o a b x y p q = q ∙ (ap (λ l. l ++ b) p ∙ append_assoc o a b)
@@ -10,7 +10,5 @@ three_more o a b c x y z p q r = two_more o (a ++ b) c y z (two_more o a b x y p
 pub four_more : (o a b c d x y z w : List ℕ) → x ≡ o ++ a → y ≡ x ++ b → z ≡ y ++ c → w ≡ z ++ d → w ≡ o ++ (((a ++ b) ++ c) ++ d)
 four_more o a b c d x y z w p q r s = two_more o ((a ++ b) ++ c) d z w (three_more o a b c x y z p q r) s
 
--- five texts from nothing
-pub five_from : (o a b c d e x y z w v : List ℕ) → o ≡ [] → x ≡ o ++ a → y ≡ x ++ b → z ≡ y ++ c → w ≡ z ++ d → v ≡ w ++ e → v ≡ (((a ++ b) ++ c) ++ d) ++ e
-five_from o a b c d e x y z w v n p q r s t =
-    two_more o (((a ++ b) ++ c) ++ d) e w v (four_more o a b c d x y z w p q r s) t ∙ ap (λ l. l ++ ((((a ++ b) ++ c) ++ d) ++ e)) n
+pub five_more : (o a b c d e x y z w v : List ℕ) → x ≡ o ++ a → y ≡ x ++ b → z ≡ y ++ c → w ≡ z ++ d → v ≡ w ++ e → v ≡ o ++ ((((a ++ b) ++ c) ++ d) ++ e)
+five_more o a b c d e x y z w v p q r s t = two_more o (((a ++ b) ++ c) ++ d) e w v (four_more o a b c d x y z w p q r s) t

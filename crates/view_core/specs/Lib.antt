@@ -3,6 +3,7 @@ pub mod Differing
 pub mod Groups
 pub mod Words
 pub mod Reports
+pub mod Chunks
 pub mod Csv
 pub mod Json
 pub mod Views

@@ -4,13 +4,14 @@ ghost use Rattle.std.specs.List.{flat_map};
 ghost use Rattle.view_core.specs.Csv.{quoted_byte, quoted_text};
 ghost use Rattle.view_core.specs.Views.{csv_head, HasFront};
 
+use crate::chunks::{Chunk, append_chunks, append_texts};
 use crate::fields::{Kind, append_values, is_open, service_of, source_kind, width_of};
 use crate::flags::append_flags;
 use crate::summary::row_count;
-use crate::text::{append_outcomes, change_name, name_of};
-use net_types::{List, Names, NoMemory, Outcome, Section};
+use crate::text::{append_outcomes, change_name};
+use net_types::{List, Names, NoMemory, Outcome, Place, Section};
 use report_groups::{Entry, Shown, Values, group_rows};
-use report_text::{append, append_number};
+use report_text::{append, name_of};
 use std::alloc::Global;
 
 // The first line.
@@ -27,38 +28,69 @@ pub(crate) fn csv_bytes(
 {
     let lines = lines_of(alloc, names, sections)?;
     let mut text = Vec::new(alloc);
-    append(&mut text, HEAD)?;
-    append(&mut text, &lines)?;
+    append_texts(&mut text, &[HEAD, &lines])?;
     Ok(text)
 }
 
 fn lines_of(alloc: Global, names: &Names, sections: &[Section]) -> Result<Vec<u8>, NoMemory> {
     let mut lines = Vec::new(alloc);
     for section in sections {
-        let entries = group_rows(alloc, section.rows.as_slice())?;
-        for entry in &entries {
-            append_line(alloc, &mut lines, names, section, entry)?;
-        }
+        append_section(alloc, &mut lines, names, section)?;
     }
     Ok(lines)
+}
+
+fn append_section(
+    alloc: Global,
+    out: &mut Vec<u8>,
+    names: &Names,
+    section: &Section,
+) -> Result<(), NoMemory> {
+    let entries = group_rows(alloc, section.rows.as_slice())?;
+    append_lines(alloc, out, names, section.place, &entries)
+}
+
+fn append_lines(
+    alloc: Global,
+    out: &mut Vec<u8>,
+    names: &Names,
+    place: Place,
+    entries: &[Entry],
+) -> Result<(), NoMemory> {
+    for entry in entries {
+        append_line(alloc, out, names, place, entry)?;
+    }
+    Ok(())
 }
 
 fn append_line(
     alloc: Global,
     out: &mut Vec<u8>,
     names: &Names,
-    section: &Section,
+    place: Place,
     entry: &Entry,
 ) -> Result<(), NoMemory> {
-    append_quoted(out, name_of(names, section.place.device))?;
-    append_next(out, name_of(names, section.place.interface))?;
-    append_next(out, change_name(entry.change))?;
+    append_chunks(
+        out,
+        &[
+            Chunk::Quoted(name_of(names, place.device)),
+            Chunk::Bytes(b","),
+            Chunk::Quoted(name_of(names, place.interface)),
+            Chunk::Bytes(b","),
+            Chunk::Quoted(change_name(entry.change)),
+        ],
+    )?;
     append_fields(alloc, out, &entry.shown)?;
     append_label(alloc, out, names, &entry.group.old)?;
     append_label(alloc, out, names, &entry.group.new)?;
-    append(out, b",")?;
-    append_number(out, row_count(&entry.group))?;
-    append(out, b"\n")
+    append_chunks(
+        out,
+        &[
+            Chunk::Bytes(b","),
+            Chunk::Number(row_count(&entry.group)),
+            Chunk::Bytes(b"\n"),
+        ],
+    )
 }
 
 // The values of each field; `any` of one that is open.
@@ -110,8 +142,7 @@ fn append_label(
 
 // A part behind a comma.
 fn append_next(out: &mut Vec<u8>, text: &[u8]) -> Result<(), NoMemory> {
-    append(out, b",")?;
-    append_quoted(out, text)
+    append_chunks(out, &[Chunk::Bytes(b","), Chunk::Quoted(text)])
 }
 
 /// Adds a part of a line, in quotes: a quote in it stands twice. Where memory runs out, a part of it may stand there.

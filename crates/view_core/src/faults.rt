@@ -2,13 +2,14 @@
 ghost use Rattle.std.specs.Prelude.{◌≤◌, IfOk, length};
 ghost use Rattle.view_core.specs.Names.{text_lines};
 
+use crate::chunks::append_texts;
 use crate::names::names_of;
 use net_types::NoMemory;
-use report_text::{ReportFail, append, read_report};
+use report_text::{ReportFail, read_report};
 use std::alloc::Global;
 
 // What a line may be, by what stands before it.
-#[derive(Clone, Copy, PartialEq, Eq)]
+#[derive(Clone, Copy)]
 enum Next {
     // An ingress, or the last line.
     Ingress,
@@ -143,28 +144,25 @@ fn count_of(word: &[u8]) -> Option<u64> {
 // Whether these words and `0` are the line of an ingress.
 fn is_ingress(alloc: Global, front: &[u8]) -> Result<bool, NoMemory> {
     let mut text = Vec::new(alloc);
-    append(&mut text, front)?;
-    append(&mut text, b"0\naffected 0\n")?;
+    append_texts(&mut text, &[front, b"0\naffected 0\n"])?;
     is_report(alloc, &text)
 }
 
 // Whether the three lines are a row.
-fn is_row(alloc: Global, cube: &[u8], old: &[u8], new: &[u8]) -> Result<bool, NoMemory> {
+fn is_row<'l>(
+    alloc: Global,
+    cube: &'l [u8],
+    old: &'l [u8],
+    new: &'l [u8],
+) -> Result<bool, NoMemory> {
     let mut text = Vec::new(alloc);
     // Any place serves.
-    append(&mut text, b"ingress a b rows 1\n")?;
-    append_row(&mut text, cube, old, new)?;
-    append(&mut text, b"affected 1\n")?;
+    let front = b"ingress a b rows 1\n";
+    append_texts(
+        &mut text,
+        &[front, cube, b"\n", old, b"\n", new, b"\naffected 1\n"],
+    )?;
     is_report(alloc, &text)
-}
-
-fn append_row(text: &mut Vec<u8>, cube: &[u8], old: &[u8], new: &[u8]) -> Result<(), NoMemory> {
-    append(text, cube)?;
-    append(text, b"\n")?;
-    append(text, old)?;
-    append(text, b"\n")?;
-    append(text, new)?;
-    append(text, b"\n")
 }
 
 fn is_report(alloc: Global, text: &[u8]) -> Result<bool, NoMemory> {

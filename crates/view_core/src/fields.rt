@@ -19,7 +19,7 @@ const TCP: u32 = 6;
 const UDP: u32 = 17;
 
 /// What the numbers of a field are.
-#[derive(Clone, Copy, PartialEq, Eq)]
+#[derive(Clone, Copy)]
 pub(crate) enum Kind {
     Address,
     Protocol,

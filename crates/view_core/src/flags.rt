@@ -4,6 +4,7 @@ ghost use Rattle.std.specs.List.{flat_map, join_by, list_any};
 ghost use Rattle.ios_words.specs.Names.{row_of};
 ghost use Rattle.view_core.specs.FieldWords.{flag_text, pattern_flags, is_open_pattern, flags_text};
 
+use crate::chunks::append_texts;
 use net_types::NoMemory;
 use report_groups::{Flags, Pattern};
 use report_text::append;
@@ -92,10 +93,8 @@ fn append_flag(out: &mut Vec<u8>, pattern: &Pattern, name: &[u8], bit: u32) -> R
         return Ok(());
     }
     if pattern.bits & bit == 0 {
-        append(out, b" no ")?;
-        append(out, name)
+        append_texts(out, &[b" no ", name])
     } else {
-        append(out, b" ")?;
-        append(out, name)
+        append_texts(out, &[b" ", name])
     }
 }

@@ -1,20 +1,19 @@
 //! A report as one document of JSON. Text of the report stands in it as `append_string` writes it, and nowhere else.
 ghost use Rattle.std.specs.Prelude.{◌≡◌, ◌++◌, ◌≤◌, codes, IfOk, OnOk};
 ghost use Rattle.std.specs.List.{flat_map, join_by};
-ghost use Rattle.report_text.specs.FieldText.{number_field_text};
+ghost use Rattle.report_text.specs.FieldText.{address_text, address_field_text, number_field_text};
 ghost use Rattle.report_text.specs.ReportText.{row_count};
-ghost use Rattle.view_core.specs.Json.{string_byte, string_text, key, string_member, place_members, address_change, port_change, outcome_members, outcome_text, outcomes_text, cube_members, fields_members, row_text, section_text, json_text};
+ghost use Rattle.view_core.specs.Json.{string_byte, string_text, string_member, place_members, address_change, port_change, outcome_members, outcome_text, outcomes_text, cube_members, fields_members, row_text, section_text, json_text};
 
+use crate::chunks::{Chunk, append_chunks, append_texts};
 use crate::escape::hex_digit;
 use crate::field_text::{address_field_bytes, number_field_bytes};
-use crate::text::name_of;
 use hdr_bits::{Cube, Header};
 use net_types::{Label, Names, NoMemory, Outcome, Place, Row, Section};
-use report_text::{address_bytes, append, append_number};
+use report_text::{address_bytes, append, append_number, name_of};
 use std::alloc::Global;
 
 /// The document of a report: exactly its sections and their rows, with the names of devices and interfaces.
-#[tactic(auto, unfolding(crate::specs::Json::json_text))]
 pub(crate) fn json_bytes(
     alloc: Global,
     names: &Names,
@@ -23,15 +22,28 @@ pub(crate) fn json_bytes(
     ensures { IfOk result (λ text. text.items ≡ json_text names.now sections.now) }
 {
     let mut out = Vec::new(alloc);
+    append_document(alloc, &mut out, names, sections)?;
+    Ok(out)
+}
+
+#[tactic(auto, unfolding(crate::specs::Json::json_text))]
+fn append_document(
+    alloc: Global,
+    out: &mut Vec<u8>,
+    names: &Names,
+    sections: &[Section],
+) -> Result<(), NoMemory>
+    ensures { OnOk result (out.new.items ≡ out.old.items ++ json_text names.now sections.now) }
+{
     append(
-        &mut out,
+        out,
         b"{\"schema\": \"diqenyu-report\", \"version\": 1, \"affected\": ",
     )?;
-    append_number(&mut out, row_count(sections))?;
-    append(&mut out, b",\n\"ingresses\": [")?;
-    append_sections(alloc, &mut out, names, sections)?;
-    append(&mut out, b"]}\n")?;
-    Ok(out)
+    append_number(out, row_count(sections))?;
+    append(out, b",\n\"ingresses\": [")?;
+    append_sections(alloc, out, names, sections)?;
+    append(out, b"]}\n")?;
+    Ok(())
 }
 
 fn row_count(sections: &[Section]) -> u128
@@ -130,19 +142,11 @@ fn append_members(
 ) -> Result<(), NoMemory>
     ensures { OnOk result (out.new.items ≡ out.old.items ++ fields_members fixed.now bits.now) }
 {
-    append_member(
-        out,
-        b"dst",
-        &address_field_bytes(alloc, fixed.dst, bits.dst)?,
-    )?;
+    append_address_field(alloc, out, b"dst", fixed.dst, bits.dst)?;
     append(out, b", ")?;
-    append_member(
-        out,
-        b"src",
-        &address_field_bytes(alloc, fixed.src, bits.src)?,
-    )?;
+    append_address_field(alloc, out, b"src", fixed.src, bits.src)?;
     append(out, b", ")?;
-    append_number_member(
+    append_number_field(
         alloc,
         out,
         b"proto",
@@ -151,7 +155,7 @@ fn append_members(
         bits.proto.into(),
     )?;
     append(out, b", ")?;
-    append_number_member(
+    append_number_field(
         alloc,
         out,
         b"dport",
@@ -160,7 +164,7 @@ fn append_members(
         bits.dport.into(),
     )?;
     append(out, b", ")?;
-    append_number_member(
+    append_number_field(
         alloc,
         out,
         b"sport",
@@ -169,7 +173,7 @@ fn append_members(
         bits.sport.into(),
     )?;
     append(out, b", ")?;
-    append_number_member(
+    append_number_field(
         alloc,
         out,
         b"flags",
@@ -179,7 +183,20 @@ fn append_members(
     )
 }
 
-fn append_number_member(
+fn append_address_field(
+    alloc: Global,
+    out: &mut Vec<u8>,
+    name: &[u8],
+    fixed: u32,
+    bits: u32,
+) -> Result<(), NoMemory>
+    ensures { OnOk result (out.new.items ≡ out.old.items ++ string_member name.now (address_field_text fixed bits)) }
+{
+    let text = address_field_bytes(alloc, fixed, bits)?;
+    append_member(out, name, &text)
+}
+
+fn append_number_field(
     alloc: Global,
     out: &mut Vec<u8>,
     name: &[u8],
@@ -251,11 +268,7 @@ fn append_outcome_members(
     match *outcome {
         Outcome::Dropped => append_member(out, b"end", b"drop"),
         Outcome::Expired => append_member(out, b"end", b"expired"),
-        Outcome::Local { place } => {
-            append_member(out, b"end", b"local")?;
-            append(out, b", ")?;
-            append_place_members(out, names, place)
-        }
+        Outcome::Local { place } => append_end(out, b"local", names, place),
         Outcome::Exit {
             place,
             src,
@@ -263,15 +276,36 @@ fn append_outcome_members(
             sport,
             dport,
         } => {
-            append_member(out, b"end", b"exit")?;
-            append(out, b", ")?;
-            append_place_members(out, names, place)?;
+            append_end(out, b"exit", names, place)?;
             append_address(alloc, out, b"src", src)?;
             append_address(alloc, out, b"dst", dst)?;
             append_port(out, b"sport", sport)?;
             append_port(out, b"dport", dport)
         }
     }
+}
+
+// How a walk ended at a place.
+#[tactic(auto, unfolding(crate::specs::Json::place_members))]
+fn append_end<'p>(
+    out: &mut Vec<u8>,
+    end: &'p [u8],
+    names: &'p Names,
+    place: Place,
+) -> Result<(), NoMemory>
+    ensures { OnOk result (out.new.items ≡ out.old.items ++ (string_member (codes "end") end.now ++ codes ", " ++ place_members names.now place)) }
+{
+    append_chunks(
+        out,
+        &[
+            Chunk::Bytes(b"\"end\": "),
+            Chunk::String(end),
+            Chunk::Bytes(b", \"device\": "),
+            Chunk::String(name_of(names, place.device)),
+            Chunk::Bytes(b", \"interface\": "),
+            Chunk::String(name_of(names, place.interface)),
+        ],
+    )
 }
 
 fn append_address(
@@ -285,8 +319,15 @@ fn append_address(
     match address {
         Some(address) => {
             let text = address_bytes(alloc, address)?;
-            append(out, b", ")?;
-            append_member(out, name, &text)
+            append_chunks(
+                out,
+                &[
+                    Chunk::Bytes(b", \""),
+                    Chunk::Bytes(name),
+                    Chunk::Bytes(b"\": "),
+                    Chunk::String(&text),
+                ],
+            )
         }
         None => Ok(()),
     }
@@ -296,11 +337,15 @@ fn append_port(out: &mut Vec<u8>, name: &[u8], port: Option<u16>) -> Result<(), 
     ensures { OnOk result (out.new.items ≡ out.old.items ++ port_change name.now port) }
 {
     match port {
-        Some(port) => {
-            append(out, b", ")?;
-            append_key(out, name)?;
-            append_number(out, port)
-        }
+        Some(port) => append_chunks(
+            out,
+            &[
+                Chunk::Bytes(b", \""),
+                Chunk::Bytes(name),
+                Chunk::Bytes(b"\": "),
+                Chunk::Number(port.into()),
+            ],
+        ),
         None => Ok(()),
     }
 }
@@ -310,26 +355,23 @@ fn append_port(out: &mut Vec<u8>, name: &[u8], port: Option<u16>) -> Result<(), 
 pub fn append_place_members(out: &mut Vec<u8>, names: &Names, place: Place) -> Result<(), NoMemory>
     ensures { OnOk result (out.new.items ≡ out.old.items ++ place_members names.now place) }
 {
-    append_member(out, b"device", name_of(names, place.device))?;
-    append(out, b", ")?;
-    append_member(out, b"interface", name_of(names, place.interface))
+    append_chunks(
+        out,
+        &[
+            Chunk::Bytes(b"\"device\": "),
+            Chunk::String(name_of(names, place.device)),
+            Chunk::Bytes(b", \"interface\": "),
+            Chunk::String(name_of(names, place.interface)),
+        ],
+    )
 }
 
 /// Adds a member that is a string. Where memory runs out, a part of it may stand there, here and below.
 pub fn append_member(out: &mut Vec<u8>, name: &[u8], text: &[u8]) -> Result<(), NoMemory>
     ensures { OnOk result (out.new.items ≡ out.old.items ++ string_member name.now text.now) }
 {
-    append_key(out, name)?;
+    append_texts(out, &[b"\"", name, b"\": "])?;
     append_string(out, text)
-}
-
-// The name of a member.
-fn append_key(out: &mut Vec<u8>, name: &[u8]) -> Result<(), NoMemory>
-    ensures { OnOk result (out.new.items ≡ out.old.items ++ key name.now) }
-{
-    append(out, b"\"")?;
-    append(out, name)?;
-    append(out, b"\": ")
 }
 
 /// Adds a string.

@@ -5,7 +5,7 @@ ghost use Rattle.view_core.specs.NumberNames.{name_of, tcp_names, udp_names, typ
 ghost use Rattle.view_core.specs.FieldWords.{port_name, option_same};
 
 /// The protocols whose names the ports have.
-#[derive(Clone, Copy, PartialEq, Eq)]
+#[derive(Clone, Copy)]
 pub(crate) enum Service {
     /// None: a port has no name.
     Unknown,

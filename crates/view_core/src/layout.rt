@@ -17,12 +17,21 @@ const ROW: u64 = 70;
 const EDGE: u64 = 80;
 
 /// Devices by their numbers below `count`, with the links between them.
-#[derive(Drop)]
 pub(crate) struct Graph {
     pub(crate) count: usize,
     pub(crate) links: Vec<(usize, usize)>,
     /// The devices where packets enter.
     pub(crate) starts: Vec<usize>,
+}
+
+impl Drop for Graph {
+    fn drop(self) {
+        let Graph {
+            count: _,
+            links: _,
+            starts: _,
+        } = self;
+    }
 }
 
 /// A point of the picture, from its left upper corner.
@@ -43,18 +52,14 @@ pub(crate) struct Layout {
 /// are linked to.
 pub(crate) fn layout_of(alloc: Global, graph: &Graph) -> Result<Layout, NoMemory> {
     let levels = levels_of(alloc, graph)?;
-    let height = height_of(&levels);
+    layout_with(alloc, graph, &levels)
+}
+
+fn layout_with(alloc: Global, graph: &Graph, levels: &[u64]) -> Result<Layout, NoMemory> {
+    let height = height_of(levels);
     let mut points = Vec::with_capacity(alloc, graph.count)?;
-    for _ in 0..graph.count {
-        points.push(Point { across: 0, down: 0 })?;
-    }
-    let mut column: u64 = 0;
-    for level in 0..last_level(&levels).saturating_add(1) {
-        let devices = ordered(alloc, graph, &levels, level, &points)?;
-        place(&devices, column, height, &mut points);
-        column = column.saturating_add((devices.len() as u64).div_ceil(MOST));
-    }
-    let width = column.saturating_sub(1).saturating_mul(COLUMN);
+    let columns = place_all(alloc, graph, levels, height, &mut points)?;
+    let width = columns.saturating_sub(1).saturating_mul(COLUMN);
     Ok(Layout {
         points,
         size: Point {
@@ -62,6 +67,26 @@ pub(crate) fn layout_of(alloc: Global, graph: &Graph) -> Result<Layout, NoMemory
             down: height.saturating_add(EDGE),
         },
     })
+}
+
+// Places all devices, and answers how many columns they fill.
+fn place_all(
+    alloc: Global,
+    graph: &Graph,
+    levels: &[u64],
+    height: u64,
+    points: &mut Vec<Point>,
+) -> Result<u64, NoMemory> {
+    for _ in 0..graph.count {
+        points.push(Point { across: 0, down: 0 })?;
+    }
+    let mut column: u64 = 0;
+    for level in 0..last_level(levels).saturating_add(1) {
+        let devices = ordered(alloc, graph, levels, level, points)?;
+        place(&devices, column, height, points);
+        column = column.saturating_add((devices.len() as u64).div_ceil(MOST));
+    }
+    Ok(column)
 }
 
 // The distance of each device from the ingresses; behind all others where none is linked to these.

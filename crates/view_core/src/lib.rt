@@ -5,6 +5,7 @@
 #![tactic(auto)]
 
 mod addresses;
+mod chunks;
 mod csv;
 mod cuts;
 mod differing;
@@ -42,7 +43,7 @@ pub use markup::Markup;
 pub use page::{page_with, told_page};
 pub use picture::{Ways, add_ways};
 pub use reading::{Reported, read_report_file, report_in};
-pub use sheet::Sheet;
+pub use sheet::{Part, Sheet};
 pub use text::{append_outcomes, group_bytes, group_words};
 pub use top::view_run;
 pub use words::{Format, Manner, behind_format, format_of};

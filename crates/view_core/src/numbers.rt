@@ -2,6 +2,7 @@
 ghost use Rattle.std.specs.Prelude.{◌≡◌, ◌++◌, ◌/◌, ◌%◌, option_map, OnOk};
 ghost use Rattle.view_core.specs.FieldWords.{range_text, name_or, protocol_text, protocol_part, name_behind, ports_text, port_part, one_type, one_message, some_types, some_messages, messages_text, masked_messages, message_part};
 
+use crate::chunks::{Chunk, append_chunks, append_texts};
 use crate::labels::{Service, code_name, port_name, protocol_name, type_name};
 use net_types::NoMemory;
 use report_groups::{Part, Pattern, Span};
@@ -57,12 +58,18 @@ fn append_masked(out: &mut Vec<u8>, pattern: &Pattern) -> Result<(), NoMemory>
 fn append_range(out: &mut Vec<u8>, span: &Span) -> Result<(), NoMemory>
     ensures { OnOk result (out.new.items ≡ out.old.items ++ range_text span.now) }
 {
-    append_number(out, span.low)?;
     if span.low == span.high {
-        return Ok(());
+        append_number(out, span.low)
+    } else {
+        append_chunks(
+            out,
+            &[
+                Chunk::Number(span.low.into()),
+                Chunk::Bytes(b" - "),
+                Chunk::Number(span.high.into()),
+            ],
+        )
     }
-    append(out, b" - ")?;
-    append_number(out, span.high)
 }
 
 #[tactic(auto, unfolding(crate::specs::FieldWords::protocol_text))]
@@ -100,11 +107,7 @@ fn append_behind(out: &mut Vec<u8>, name: Option<&[u8]>) -> Result<(), NoMemory>
     ensures { OnOk result (out.new.items ≡ out.old.items ++ name_behind (option_map (λ n. n.now) name.entry)) }
 {
     match name {
-        Some(name) => {
-            append(out, b" (")?;
-            append(out, name)?;
-            append(out, b")")
-        }
+        Some(name) => append_texts(out, &[b" (", name, b")"]),
         None => Ok(()),
     }
 }
@@ -141,10 +144,10 @@ fn append_type(out: &mut Vec<u8>, kind: u32) -> Result<(), NoMemory>
 {
     match type_name(kind) {
         Some(name) => append(out, name),
-        None => {
-            append(out, b"icmp type ")?;
-            append_number(out, kind)
-        }
+        None => append_chunks(
+            out,
+            &[Chunk::Bytes(b"icmp type "), Chunk::Number(kind.into())],
+        ),
     }
 }
 
@@ -153,20 +156,28 @@ fn append_message(out: &mut Vec<u8>, message: u32) -> Result<(), NoMemory>
 {
     match code_name(message) {
         Some(name) => append(out, name),
-        None => {
-            append(out, b"icmp type ")?;
-            append_number(out, message / 256)?;
-            append(out, b" code ")?;
-            append_number(out, message % 256)
-        }
+        None => append_chunks(
+            out,
+            &[
+                Chunk::Bytes(b"icmp type "),
+                Chunk::Number((message / 256).into()),
+                Chunk::Bytes(b" code "),
+                Chunk::Number((message % 256).into()),
+            ],
+        ),
     }
 }
 
 fn append_types(out: &mut Vec<u8>, span: &Span) -> Result<(), NoMemory>
     ensures { OnOk result (out.new.items ≡ out.old.items ++ some_types span.now) }
 {
-    append(out, b"icmp types ")?;
-    append_number(out, span.low / 256)?;
-    append(out, b" - ")?;
-    append_number(out, span.high / 256)
+    append_chunks(
+        out,
+        &[
+            Chunk::Bytes(b"icmp types "),
+            Chunk::Number((span.low / 256).into()),
+            Chunk::Bytes(b" - "),
+            Chunk::Number((span.high / 256).into()),
+        ],
+    )
 }

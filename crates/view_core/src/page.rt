@@ -6,7 +6,7 @@ ghost use Rattle.view_core.specs.Views.{page_head};
 
 use crate::markup::Markup;
 use crate::picture::add_picture;
-use crate::sheet::Sheet;
+use crate::sheet::{Part, Sheet};
 use crate::table::Groups;
 use net_types::{Names, NoMemory, Section, Text};
 use std::alloc::Global;
@@ -102,17 +102,20 @@ fn add_sections(alloc: Global, groups: &mut Groups, shown: Shown) -> Result<(), 
 }
 
 fn add_heading(page: &mut Sheet, title: &Text) -> Result<(), NoMemory> {
-    page.markup(Markup::Head)?;
-    add_title(page, title)?;
-    page.markup(Markup::Style)?;
-    add_title(page, title)?;
-    page.markup(Markup::Summary)
+    let title = title_part(title);
+    page.parts(&[
+        Part::Markup(Markup::Head),
+        title,
+        Part::Markup(Markup::Style),
+        title,
+        Part::Markup(Markup::Summary),
+    ])
 }
 
-fn add_title(page: &mut Sheet, title: &Text) -> Result<(), NoMemory> {
+fn title_part(title: &Text) -> Part {
     if title.as_bytes().is_empty() {
-        page.markup(Markup::Untitled)
+        Part::Markup(Markup::Untitled)
     } else {
-        page.text(title.as_bytes())
+        Part::Text(title.as_bytes())
     }
 }

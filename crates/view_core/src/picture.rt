@@ -4,7 +4,7 @@ ghost use Rattle.view_core.specs.Ways.{way_text, mark_text, marks_text};
 
 use crate::layout::{Graph, Layout, Point, bend_of, layout_of};
 use crate::markup::Markup;
-use crate::sheet::Sheet;
+use crate::sheet::{Part, Sheet};
 use net_types::{Label, List, Names, NoMemory, Outcome, Section, Text};
 use std::alloc::Global;
 use topo_links::{LinkKind, LinkTable, NameIndex};
@@ -29,26 +29,54 @@ fn add_devices(page: &mut Sheet, plan: &Plan, ends: &NameIndex) -> Result<(), No
     add_plan(page, plan)?;
     let points = &plan.drawing.layout.points;
     for (name, point) in plan.names.as_slice().iter().zip(points.iter()) {
-        page.markup(Markup::Device)?;
-        if ends.has(name) {
-            page.markup(Markup::Ends)?;
-        }
-        add_entry(page, plan, name)?;
-        page.markup(Markup::DeviceName)?;
-        page.text(name.as_bytes())?;
-        page.markup(Markup::DeviceAcross)?;
-        add_circle(page, name, *point)?;
-        page.markup(Markup::DeviceEnd)?;
+        add_device(page, plan, ends, name, *point)?;
     }
     page.markup(Markup::Legend)
 }
 
+fn add_device(
+    page: &mut Sheet,
+    plan: &Plan,
+    ends: &NameIndex,
+    name: &Text,
+    point: Point,
+) -> Result<(), NoMemory> {
+    page.parts(&[
+        Part::Markup(Markup::Device),
+        part_if(ends.has(name), Markup::Ends),
+        part_if(plan.entries.has(name), Markup::Enters),
+        Part::Markup(Markup::DeviceName),
+        Part::Text(name.as_bytes()),
+        Part::Markup(Markup::DeviceAcross),
+    ])?;
+    add_circle(page, name, point)?;
+    page.markup(Markup::DeviceEnd)
+}
+
+// This constant part, or nothing.
+fn part_if(holds: bool, markup: Markup) -> Part<'static> {
+    if holds {
+        Part::Markup(markup)
+    } else {
+        Part::Text(b"")
+    }
+}
+
 /// The devices that a packet passes in the old network and in the new one, and those at which the networks part.
-#[derive(Drop)]
 pub struct Ways {
     pub old: NameIndex,
     pub new: NameIndex,
     pub parts: NameIndex,
+}
+
+impl Drop for Ways {
+    fn drop(self) {
+        let Ways {
+            old: _,
+            new: _,
+            parts: _,
+        } = self;
+    }
 }
 
 /// A picture of the network in which the ways of a packet are marked.
@@ -66,15 +94,29 @@ fn add_passed(page: &mut Sheet, plan: &Plan, ways: &Ways) -> Result<(), NoMemory
     add_plan(page, plan)?;
     let points = &plan.drawing.layout.points;
     for (name, point) in plan.names.as_slice().iter().zip(points.iter()) {
-        page.markup(Markup::Node)?;
-        add_marks(page, ways, name)?;
-        add_entry(page, plan, name)?;
-        page.markup(Markup::NodeAcross)?;
-        add_circle(page, name, *point)?;
-        page.text(way_of(ways, name))?;
-        page.markup(Markup::DeviceEnd)?;
+        add_node(page, plan, ways, name, *point)?;
     }
     page.markup(Markup::WaysLegend)
+}
+
+fn add_node(
+    page: &mut Sheet,
+    plan: &Plan,
+    ways: &Ways,
+    name: &Text,
+    point: Point,
+) -> Result<(), NoMemory> {
+    page.markup(Markup::Node)?;
+    add_marks(page, ways, name)?;
+    page.parts(&[
+        part_if(plan.entries.has(name), Markup::Enters),
+        Part::Markup(Markup::NodeAcross),
+    ])?;
+    add_circle(page, name, point)?;
+    page.parts(&[
+        Part::Text(way_of(ways, name)),
+        Part::Markup(Markup::DeviceEnd),
+    ])
 }
 
 // The classes of a device that a packet passes.
@@ -109,11 +151,20 @@ fn way_of(ways: &Ways, name: &Text) -> &'static [u8]
 }
 
 // What pictures of a network have in common: the names of its devices and those where packets enter, and where everything stands.
-#[derive(Drop)]
 struct Plan {
     names: List<Text>,
     entries: NameIndex,
     drawing: Drawing,
+}
+
+impl Drop for Plan {
+    fn drop(self) {
+        let Plan {
+            names: _,
+            entries: _,
+            drawing: _,
+        } = self;
+    }
 }
 
 // The links between the devices, and where these stand.
@@ -129,9 +180,9 @@ fn plan_of(alloc: Global, table: &LinkTable) -> Result<Plan, NoMemory> {
 }
 
 fn plan_with(alloc: Global, table: &LinkTable, devices: &NameIndex) -> Result<Plan, NoMemory> {
-    let drawing = drawing_of(alloc, table, devices)?;
-    let names = devices.copies(alloc)?;
     let entries = entries_of(alloc, table)?;
+    let names = devices.copies(alloc)?;
+    let drawing = drawing_of(alloc, table, devices)?;
     Ok(Plan {
         names,
         entries,
@@ -144,21 +195,18 @@ fn drawing_of(alloc: Global, table: &LinkTable, devices: &NameIndex) -> Result<D
     let layout = layout_of(alloc, &graph)?;
     Ok(Drawing { graph, layout })
 }
+
 // The picture without its devices.
 fn add_plan(page: &mut Sheet, plan: &Plan) -> Result<(), NoMemory> {
-    page.markup(Markup::Network)?;
-    page.number(plan.drawing.layout.size.across)?;
-    page.markup(Markup::Blank)?;
-    page.number(plan.drawing.layout.size.down)?;
-    page.markup(Markup::NetworkEnd)?;
+    let size = plan.drawing.layout.size;
+    page.parts(&[
+        Part::Markup(Markup::Network),
+        Part::Number(size.across),
+        Part::Markup(Markup::Blank),
+        Part::Number(size.down),
+        Part::Markup(Markup::NetworkEnd),
+    ])?;
     add_links(page, &plan.drawing)
-}
-
-fn add_entry(page: &mut Sheet, plan: &Plan, name: &Text) -> Result<(), NoMemory> {
-    if plan.entries.has(name) {
-        return page.markup(Markup::Enters);
-    }
-    Ok(())
 }
 
 fn devices_of(alloc: Global, table: &LinkTable) -> Result<NameIndex, NoMemory> {
@@ -174,27 +222,38 @@ fn devices_of(alloc: Global, table: &LinkTable) -> Result<NameIndex, NoMemory> {
 
 // The devices by their places in the index, with a link from the first end of each line to each other one.
 fn graph_of(alloc: Global, devices: &NameIndex, table: &LinkTable) -> Result<Graph, NoMemory> {
-    let mut links = Vec::new(alloc);
-    let mut starts = Vec::new(alloc);
+    let mut graph = Graph {
+        count: devices.len(),
+        links: Vec::new(alloc),
+        starts: Vec::new(alloc),
+    };
     for line in table.lines.as_slice() {
         if let [first, rest @ ..] = line.ends.as_slice() {
             if let Some(start) = devices.place(&first.0) {
-                if line.kind == LinkKind::Ingress {
-                    starts.push(start)?;
-                }
-                for end in rest {
-                    if let Some(other) = devices.place(&end.0) {
-                        links.push((start, other))?;
-                    }
-                }
+                add_ends_of(&mut graph, devices, start, line.kind, rest)?;
             }
         }
     }
-    Ok(Graph {
-        count: devices.len(),
-        links,
-        starts,
-    })
+    Ok(graph)
+}
+
+// Adds the links of a line from its first end.
+fn add_ends_of(
+    graph: &mut Graph,
+    devices: &NameIndex,
+    start: usize,
+    kind: LinkKind,
+    rest: &[(Text, Text)],
+) -> Result<(), NoMemory> {
+    if kind == LinkKind::Ingress {
+        graph.starts.push(start)?;
+    }
+    for end in rest {
+        if let Some(other) = devices.place(&end.0) {
+            graph.links.push((start, other))?;
+        }
+    }
+    Ok(())
 }
 
 // The devices that an outcome names.
@@ -255,30 +314,35 @@ fn add_links(page: &mut Sheet, drawing: &Drawing) -> Result<(), NoMemory> {
 }
 
 fn add_link(page: &mut Sheet, a: Point, b: Point) -> Result<(), NoMemory> {
-    page.markup(Markup::Link)?;
-    add_point(page, a)?;
-    page.markup(Markup::LinkBend)?;
-    add_point(page, bend_of(a, b))?;
-    page.markup(Markup::LinkTo)?;
-    add_point(page, b)?;
-    page.markup(Markup::LinkEnd)
-}
-
-fn add_point(page: &mut Sheet, point: Point) -> Result<(), NoMemory> {
-    page.number(point.across)?;
-    page.markup(Markup::Blank)?;
-    page.number(point.down)
+    let bend = bend_of(a, b);
+    page.parts(&[
+        Part::Markup(Markup::Link),
+        Part::Number(a.across),
+        Part::Markup(Markup::Blank),
+        Part::Number(a.down),
+        Part::Markup(Markup::LinkBend),
+        Part::Number(bend.across),
+        Part::Markup(Markup::Blank),
+        Part::Number(bend.down),
+        Part::Markup(Markup::LinkTo),
+        Part::Number(b.across),
+        Part::Markup(Markup::Blank),
+        Part::Number(b.down),
+        Part::Markup(Markup::LinkEnd),
+    ])
 }
 
 // The circle of a device, and its name below it.
 fn add_circle(page: &mut Sheet, name: &Text, point: Point) -> Result<(), NoMemory> {
-    page.number(point.across)?;
-    page.markup(Markup::DeviceDown)?;
-    page.number(point.down)?;
-    page.markup(Markup::DeviceText)?;
-    page.number(point.across)?;
-    page.markup(Markup::DeviceTextDown)?;
-    page.number(point.down.saturating_add(NAME_BELOW))?;
-    page.markup(Markup::DeviceTextName)?;
-    page.text(name.as_bytes())
+    page.parts(&[
+        Part::Number(point.across),
+        Part::Markup(Markup::DeviceDown),
+        Part::Number(point.down),
+        Part::Markup(Markup::DeviceText),
+        Part::Number(point.across),
+        Part::Markup(Markup::DeviceTextDown),
+        Part::Number(point.down.saturating_add(NAME_BELOW)),
+        Part::Markup(Markup::DeviceTextName),
+        Part::Text(name.as_bytes()),
+    ])
 }

@@ -14,6 +14,18 @@ pub struct Sheet {
     pub ghost written: { ∥ IsPage bytes.items ∥₁ },
 }
 
+/// What is added to a page with other parts.
+#[derive(Clone, Copy)]
+pub enum Part<'a> {
+    Markup(Markup),
+    Number(u64),
+    /// Text: it is shown, and means nothing.
+    Text(&'a [u8]),
+    /// Text that may be broken behind a `/`.
+    Name(&'a [u8]),
+    Sheet(&'a Sheet),
+}
+
 impl Sheet {
     ghost use Rattle.std.specs.Prelude.{◌≡◌, ◌++◌, [], OnOk};
     ghost use Rattle.view_core.specs.Markup.{markup_text};
@@ -24,6 +36,24 @@ impl Sheet {
     {
         Sheet {
             bytes: Vec::new(alloc),
+        }
+    }
+
+    /// Adds parts, one after the other. Where memory runs out, the first of them may stand there.
+    pub fn parts(&mut self, parts: &[Part]) -> Result<(), NoMemory> {
+        for part in parts {
+            self.add(part)?;
+        }
+        Ok(())
+    }
+
+    fn add(&mut self, part: &Part) -> Result<(), NoMemory> {
+        match *part {
+            Part::Markup(markup) => self.markup(markup),
+            Part::Number(number) => self.number(number),
+            Part::Text(text) => self.text(text),
+            Part::Name(text) => self.name(text),
+            Part::Sheet(sheet) => self.part(sheet),
         }
     }
 

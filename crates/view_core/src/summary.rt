@@ -1,10 +1,11 @@
 //! How many rows and groups there are of each kind of change, and of each outcome.
 
+use crate::chunks::{Chunk, append_chunks, append_texts};
 use crate::text::{ORDER, change_name};
 use indexmap::IndexMap;
-use net_types::{Names, NoMemory};
+use net_types::{List, Names, NoMemory, Outcome};
 use report_groups::{Change, Entry, Group};
-use report_text::{append, append_number, outcome_bytes};
+use report_text::outcome_bytes;
 use std::alloc::Global;
 
 /// Rows and groups, counted.
@@ -41,13 +42,21 @@ impl Counts {
         let group = &entry.group;
         let rows = row_count(group);
         count_change(&mut self.changes, entry.change);
-        for outcome in group.old.as_slice() {
-            let text = outcome_bytes(alloc, names, outcome)?;
-            add_count(&mut self.outcomes, keyed(alloc, b"old ", &text)?, rows)?;
-        }
-        for outcome in group.new.as_slice() {
-            let text = outcome_bytes(alloc, names, outcome)?;
-            add_count(&mut self.outcomes, keyed(alloc, b"new ", &text)?, rows)?;
+        self.add_outcomes(alloc, names, b"old ", &group.old, rows)?;
+        self.add_outcomes(alloc, names, b"new ", &group.new, rows)
+    }
+
+    fn add_outcomes(
+        &mut self,
+        alloc: Global,
+        names: &Names,
+        version: &[u8],
+        outcomes: &List<Outcome>,
+        rows: u64,
+    ) -> Result<(), NoMemory> {
+        for outcome in outcomes.as_slice() {
+            let key = key_of(alloc, names, version, outcome)?;
+            add_count(&mut self.outcomes, key, rows)?;
         }
         Ok(())
     }
@@ -59,10 +68,15 @@ impl Counts {
     }
 }
 
-fn keyed(alloc: Global, version: &[u8], text: &[u8]) -> Result<Vec<u8>, NoMemory> {
+fn key_of(
+    alloc: Global,
+    names: &Names,
+    version: &[u8],
+    outcome: &Outcome,
+) -> Result<Vec<u8>, NoMemory> {
+    let text = outcome_bytes(alloc, names, outcome)?;
     let mut key = Vec::new(alloc);
-    append(&mut key, version)?;
-    append(&mut key, text)?;
+    append_texts(&mut key, &[version, &text])?;
     Ok(key)
 }
 
@@ -105,11 +119,16 @@ pub(crate) fn row_count(group: &Group) -> u64 {
 pub(crate) fn append_changes(out: &mut Vec<u8>, changes: &[u64; 5]) -> Result<(), NoMemory> {
     for k in 0..5 {
         if changes[k] > 0 {
-            append(out, b"  ")?;
-            append(out, change_name(ORDER[k]))?;
-            append(out, b" ")?;
-            append_number(out, changes[k])?;
-            append(out, b"\n")?;
+            append_chunks(
+                out,
+                &[
+                    Chunk::Bytes(b"  "),
+                    Chunk::Bytes(change_name(ORDER[k])),
+                    Chunk::Bytes(b" "),
+                    Chunk::Number(changes[k]),
+                    Chunk::Bytes(b"\n"),
+                ],
+            )?;
         }
     }
     Ok(())
@@ -118,13 +137,18 @@ pub(crate) fn append_changes(out: &mut Vec<u8>, changes: &[u64; 5]) -> Result<()
 /// A line for each outcome in the order of its text.
 pub(crate) fn append_outcome_counts(out: &mut Vec<u8>, counts: &Counts) -> Result<(), NoMemory> {
     for (text, count) in &counts.outcomes {
-        append(out, b"  ")?;
-        append(out, text)?;
-        append(out, b": groups ")?;
-        append_number(out, count.groups)?;
-        append(out, b", rows ")?;
-        append_number(out, count.rows)?;
-        append(out, b"\n")?;
+        append_chunks(
+            out,
+            &[
+                Chunk::Bytes(b"  "),
+                Chunk::Bytes(text),
+                Chunk::Bytes(b": groups "),
+                Chunk::Number(count.groups),
+                Chunk::Bytes(b", rows "),
+                Chunk::Number(count.rows),
+                Chunk::Bytes(b"\n"),
+            ],
+        )?;
     }
     Ok(())
 }

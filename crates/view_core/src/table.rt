@@ -2,9 +2,9 @@
 
 use crate::fields::append_fields;
 use crate::markup::Markup;
-use crate::sheet::Sheet;
+use crate::sheet::{Part, Sheet};
 use crate::summary::count_change;
-use crate::text::{ORDER, append_outcomes, append_place};
+use crate::text::{ORDER, append_named, append_outcomes};
 use net_types::{Names, NoMemory, Section};
 use report_groups::{Change, Entry, Group, Pattern, group_rows};
 use std::alloc::Global;
@@ -13,7 +13,6 @@ use std::alloc::Global;
 const SHOWN: u64 = 200;
 
 /// The groups of the ingresses so far.
-#[derive(Drop)]
 pub(crate) struct Groups {
     // The groups of each kind of change.
     loops: Kind,
@@ -32,12 +31,40 @@ pub(crate) struct Groups {
     number: usize,
 }
 
+impl Drop for Groups {
+    fn drop(self) {
+        let Groups {
+            loops: _,
+            closes: _,
+            opens: _,
+            moves: _,
+            translated: _,
+            choices: _,
+            counts: _,
+            untouched: _,
+            ingresses: _,
+            untouched_count: _,
+            rows: _,
+            number: _,
+        } = self;
+    }
+}
+
 // The groups of a kind of change: rows of the table, and lines of those that it does not show yet.
-#[derive(Drop)]
 struct Kind {
     rows: Sheet,
     lines: Sheet,
     count: u64,
+}
+
+impl Drop for Kind {
+    fn drop(self) {
+        let Kind {
+            rows: _,
+            lines: _,
+            count: _,
+        } = self;
+    }
 }
 
 fn no_groups(alloc: Global) -> Kind {
@@ -74,59 +101,95 @@ impl Groups {
         section: &Section,
         told: &[Vec<u8>],
     ) -> Result<(), NoMemory> {
+        let rows = section.rows.as_slice();
         let mut name = Vec::new(alloc);
-        append_place(&mut name, names, section.place)?;
+        append_named(&mut name, b"", names, section.place)?;
+        let entries = group_rows(alloc, rows)?;
         let ingress = Ingress {
             number: self.ingresses,
-            name,
+            name: &name,
+            rows: rows.len() as u64,
         };
         self.ingresses = self.ingresses.saturating_add(1);
-        add_choice(&mut self.choices, &ingress)?;
-        let entries = group_rows(alloc, section.rows.as_slice())?;
+        self.add_entries(alloc, names, ingress, &entries, told)
+    }
+
+    // Adds the groups of an ingress, by what is looked at first.
+    fn add_entries(
+        &mut self,
+        alloc: Global,
+        names: &Names,
+        ingress: Ingress,
+        entries: &[Entry],
+        told: &[Vec<u8>],
+    ) -> Result<(), NoMemory> {
+        self.choices.parts(&[
+            Part::Markup(Markup::Choice),
+            Part::Number(ingress.number),
+            Part::Markup(Markup::ChoiceName),
+            Part::Text(ingress.name),
+            Part::Markup(Markup::ChoiceEnd),
+        ])?;
         let mut counts = [0; 5];
-        for entry in in_order(alloc, &entries)? {
-            count_change(&mut counts, entry.change);
-            self.add_entry(alloc, names, &ingress, entry, told)?;
+        for change in &ORDER {
+            for entry in entries {
+                if entry.change == *change {
+                    count_change(&mut counts, *change);
+                    self.add_entry(alloc, names, ingress, entry, told)?;
+                }
+            }
         }
-        self.add_counts(&ingress, &counts, section.rows.as_slice().len() as u64)
+        self.add_counts(ingress, &counts)
     }
 
     fn add_entry(
         &mut self,
         alloc: Global,
         names: &Names,
-        ingress: &Ingress,
+        ingress: Ingress,
         entry: &Entry,
         told: &[Vec<u8>],
     ) -> Result<(), NoMemory> {
-        let words = words_of(alloc, names, entry, told_of(told, self.number))?;
+        let mut words = Words {
+            headers: Vec::new(alloc),
+            old: Vec::new(alloc),
+            new: Vec::new(alloc),
+        };
+        words.add(alloc, names, entry)?;
+        let told = told_of(told, self.number);
         self.number = self.number.saturating_add(1);
+        self.add_group(ingress, entry, &words, told)
+    }
+
+    fn add_group(
+        &mut self,
+        ingress: Ingress,
+        entry: &Entry,
+        words: &Words,
+        told: &[u8],
+    ) -> Result<(), NoMemory> {
         match entry.change {
-            Change::Loops => add_group(&mut self.loops, ingress, entry, &words),
-            Change::Closes => add_group(&mut self.closes, ingress, entry, &words),
-            Change::Opens => add_group(&mut self.opens, ingress, entry, &words),
-            Change::Moves => add_group(&mut self.moves, ingress, entry, &words),
-            Change::Translated => add_group(&mut self.translated, ingress, entry, &words),
+            Change::Loops => self.loops.add(ingress, entry, words, told),
+            Change::Closes => self.closes.add(ingress, entry, words, told),
+            Change::Opens => self.opens.add(ingress, entry, words, told),
+            Change::Moves => self.moves.add(ingress, entry, words, told),
+            Change::Translated => self.translated.add(ingress, entry, words, told),
         }
     }
 
     // The counts of an ingress, or that nothing changes there.
-    fn add_counts(
-        &mut self,
-        ingress: &Ingress,
-        counts: &[u64; 5],
-        rows: u64,
-    ) -> Result<(), NoMemory> {
-        self.rows = self.rows.saturating_add(rows);
-        if rows == 0 {
+    fn add_counts(&mut self, ingress: Ingress, counts: &[u64; 5]) -> Result<(), NoMemory> {
+        self.rows = self.rows.saturating_add(ingress.rows);
+        if ingress.rows == 0 {
             self.untouched_count = self.untouched_count.saturating_add(1);
-            self.untouched.markup(Markup::Item)?;
-            self.untouched.name(&ingress.name)?;
-            return self.untouched.markup(Markup::ItemEnd);
+            return self.untouched.parts(&[
+                Part::Markup(Markup::Item),
+                Part::Name(ingress.name),
+                Part::Markup(Markup::ItemEnd),
+            ]);
         }
-        self.counts.markup(Markup::CountsRow)?;
-        self.counts.name(&ingress.name)?;
-        add_numbers(&mut self.counts, counts, rows)
+        self.counts.parts(&[Part::Markup(Markup::CountsRow), Part::Name(ingress.name)])?;
+        add_numbers(&mut self.counts, counts, ingress.rows)
     }
 
     fn totals(&self) -> [u64; 5] {
@@ -157,110 +220,98 @@ impl Groups {
     // Adds the counts of groups, by ingress and kind of change, and the ingresses where nothing changes.
     fn add_summary(&self, page: &mut Sheet) -> Result<(), NoMemory> {
         if self.rows == 0 {
-            page.markup(Markup::Nothing)?;
-            page.number(self.ingresses)?;
-            page.markup(Markup::Ingresses)?;
+            page.parts(&[
+                Part::Markup(Markup::Nothing),
+                Part::Number(self.ingresses),
+                Part::Markup(Markup::Ingresses),
+            ])?;
         } else {
-            page.markup(Markup::Some)?;
-            page.number(self.count())?;
-            page.markup(Markup::GroupsOf)?;
-            page.number(self.rows)?;
-            page.markup(Markup::RowsAt)?;
-            page.number(self.ingresses.saturating_sub(self.untouched_count))?;
-            page.markup(Markup::Of)?;
-            page.number(self.ingresses)?;
-            page.markup(Markup::Ingresses)?;
-            self.add_all_counts(page)?;
+            self.add_totals(page)?;
+            page.parts(&[Part::Sheet(&self.counts), Part::Markup(Markup::CountsEnd)])?;
         }
-        self.add_untouched(page)
-    }
-
-    fn add_all_counts(&self, page: &mut Sheet) -> Result<(), NoMemory> {
-        page.markup(Markup::Counts)?;
-        page.markup(Markup::CountsRow)?;
-        page.markup(Markup::AllIngresses)?;
-        add_numbers(page, &self.totals(), self.rows)?;
-        page.part(&self.counts)?;
-        page.markup(Markup::CountsEnd)
-    }
-
-    fn add_untouched(&self, page: &mut Sheet) -> Result<(), NoMemory> {
         if self.untouched_count == 0 {
             return Ok(());
         }
-        page.markup(Markup::Untouched)?;
-        page.number(self.untouched_count)?;
-        page.markup(Markup::Of)?;
-        page.number(self.ingresses)?;
-        page.markup(Markup::UntouchedOf)?;
-        page.part(&self.untouched)?;
-        page.markup(Markup::UntouchedEnd)
+        page.parts(&[
+            Part::Markup(Markup::Untouched),
+            Part::Number(self.untouched_count),
+            Part::Markup(Markup::Of),
+            Part::Number(self.ingresses),
+            Part::Markup(Markup::UntouchedOf),
+            Part::Sheet(&self.untouched),
+            Part::Markup(Markup::UntouchedEnd),
+        ])
+    }
+
+    // How many groups and rows there are, and the counts of all ingresses.
+    fn add_totals(&self, page: &mut Sheet) -> Result<(), NoMemory> {
+        page.parts(&[
+            Part::Markup(Markup::Some),
+            Part::Number(self.count()),
+            Part::Markup(Markup::GroupsOf),
+            Part::Number(self.rows),
+            Part::Markup(Markup::RowsAt),
+            Part::Number(self.ingresses.saturating_sub(self.untouched_count)),
+            Part::Markup(Markup::Of),
+            Part::Number(self.ingresses),
+            Part::Markup(Markup::Ingresses),
+            Part::Markup(Markup::Counts),
+            Part::Markup(Markup::CountsRow),
+            Part::Markup(Markup::AllIngresses),
+        ])?;
+        add_numbers(page, &self.totals(), self.rows)
     }
 
     // Adds the filter, the table with the first groups of each kind of change, and the lines of the others.
     fn add_table(&self, page: &mut Sheet) -> Result<(), NoMemory> {
-        page.markup(Markup::Form)?;
-        page.part(&self.choices)?;
-        page.markup(Markup::Changes)?;
-        page.number(self.count())?;
-        page.markup(Markup::Table)?;
-        page.part(&self.loops.rows)?;
-        page.part(&self.closes.rows)?;
-        page.part(&self.opens.rows)?;
-        page.part(&self.moves.rows)?;
-        page.part(&self.translated.rows)?;
-        page.markup(Markup::TableEnd)?;
-        self.add_lines(page)
-    }
-
-    fn add_lines(&self, page: &mut Sheet) -> Result<(), NoMemory> {
-        page.markup(Markup::Rest)?;
-        page.part(&self.loops.lines)?;
-        page.part(&self.closes.lines)?;
-        page.part(&self.opens.lines)?;
-        page.part(&self.moves.lines)?;
-        page.part(&self.translated.lines)?;
-        page.markup(Markup::RestEnd)
+        page.parts(&[
+            Part::Markup(Markup::Form),
+            Part::Sheet(&self.choices),
+            Part::Markup(Markup::Changes),
+            Part::Number(self.count()),
+            Part::Markup(Markup::Table),
+            Part::Sheet(&self.loops.rows),
+            Part::Sheet(&self.closes.rows),
+            Part::Sheet(&self.opens.rows),
+            Part::Sheet(&self.moves.rows),
+            Part::Sheet(&self.translated.rows),
+            Part::Markup(Markup::TableEnd),
+            Part::Markup(Markup::Rest),
+            Part::Sheet(&self.loops.lines),
+            Part::Sheet(&self.closes.lines),
+            Part::Sheet(&self.opens.lines),
+            Part::Sheet(&self.moves.lines),
+            Part::Sheet(&self.translated.lines),
+            Part::Markup(Markup::RestEnd),
+        ])
     }
 }
 
-// An ingress by its number and its name.
-#[derive(Drop)]
-struct Ingress {
+// An ingress by its number and its name, and how many rows it has.
+#[derive(Clone, Copy)]
+struct Ingress<'a> {
     number: u64,
-    name: Vec<u8>,
-}
-
-fn add_choice(choices: &mut Sheet, ingress: &Ingress) -> Result<(), NoMemory> {
-    choices.markup(Markup::Choice)?;
-    choices.number(ingress.number)?;
-    choices.markup(Markup::ChoiceName)?;
-    choices.text(&ingress.name)?;
-    choices.markup(Markup::ChoiceEnd)
+    name: &'a [u8],
+    rows: u64,
 }
 
 // The counts of the kinds of changes, and that of rows.
 fn add_numbers(page: &mut Sheet, counts: &[u64; 5], rows: u64) -> Result<(), NoMemory> {
-    page.markup(Markup::CountsFirst)?;
-    for count in counts {
-        page.number(*count)?;
-        page.markup(Markup::CountsNext)?;
-    }
-    page.number(rows)?;
-    page.markup(Markup::CountsRowEnd)
-}
-
-// The groups of an ingress, by what is looked at first.
-fn in_order<'a>(alloc: Global, entries: &'a [Entry]) -> Result<Vec<&'a Entry>, NoMemory> {
-    let mut found = Vec::new(alloc);
-    for change in &ORDER {
-        for entry in entries {
-            if entry.change == *change {
-                found.push(entry)?;
-            }
-        }
-    }
-    Ok(found)
+    page.parts(&[
+        Part::Markup(Markup::CountsFirst),
+        Part::Number(counts[0]),
+        Part::Markup(Markup::CountsNext),
+        Part::Number(counts[1]),
+        Part::Markup(Markup::CountsNext),
+        Part::Number(counts[2]),
+        Part::Markup(Markup::CountsNext),
+        Part::Number(counts[3]),
+        Part::Markup(Markup::CountsNext),
+        Part::Number(counts[4]),
+        Part::Markup(Markup::CountsNext),
+        Part::Number(rows),
+        Part::Markup(Markup::CountsRowEnd),
+    ])
 }
 
 // What is told of the group of this number; nothing behind the last text.
@@ -271,46 +322,40 @@ fn told_of(told: &[Vec<u8>], number: usize) -> &[u8] {
     }
 }
 
-// Adds a group to its kind: as a row of the table, or as a line where there are enough rows.
-fn add_group(
-    kind: &mut Kind,
-    ingress: &Ingress,
-    entry: &Entry,
-    words: &Words,
-) -> Result<(), NoMemory> {
-    kind.count = kind.count.saturating_add(1);
-    if kind.count <= SHOWN {
-        add_row(&mut kind.rows, ingress, entry, words)
-    } else {
-        add_line(&mut kind.lines, ingress, entry, words)
+impl Kind {
+    // Adds a group: as a row of the table, or as a line where there are enough rows.
+    fn add(
+        &mut self,
+        ingress: Ingress,
+        entry: &Entry,
+        words: &Words,
+        told: &[u8],
+    ) -> Result<(), NoMemory> {
+        self.count = self.count.saturating_add(1);
+        if self.count <= SHOWN {
+            add_row(&mut self.rows, ingress, entry, words)?;
+            add_told(&mut self.rows, told)
+        } else {
+            add_line(&mut self.lines, ingress, entry, words)?;
+            add_told_parts(&mut self.lines, told)
+        }
     }
 }
 
-// What is shown of a group: its headers, its outcomes in the two networks, and what is told below it.
+// What is shown of a group: its headers, and its outcomes in the two networks.
 #[derive(Drop)]
-struct Words<'a> {
+struct Words {
     headers: Vec<u8>,
     old: Vec<u8>,
     new: Vec<u8>,
-    told: &'a [u8],
 }
 
-fn words_of<'a>(
-    alloc: Global,
-    names: &Names,
-    entry: &Entry,
-    told: &'a [u8],
-) -> Result<Words<'a>, NoMemory> {
-    let mut words = Words {
-        told,
-        headers: Vec::new(alloc),
-        old: Vec::new(alloc),
-        new: Vec::new(alloc),
-    };
-    append_fields(alloc, &mut words.headers, &entry.shown)?;
-    append_outcomes(alloc, &mut words.old, names, &entry.group.old)?;
-    append_outcomes(alloc, &mut words.new, names, &entry.group.new)?;
-    Ok(words)
+impl Words {
+    fn add(&mut self, alloc: Global, names: &Names, entry: &Entry) -> Result<(), NoMemory> {
+        append_fields(alloc, &mut self.headers, &entry.shown)?;
+        append_outcomes(alloc, &mut self.old, names, &entry.group.old)?;
+        append_outcomes(alloc, &mut self.new, names, &entry.group.new)
+    }
 }
 
 fn row_start(change: Change) -> Markup {
@@ -343,26 +388,33 @@ fn line_change(change: Change) -> Markup {
     }
 }
 
-fn add_row(
+fn add_row_start(rows: &mut Sheet, number: u64, entry: &Entry) -> Result<(), NoMemory> {
+    rows.parts(&[
+        Part::Markup(row_start(entry.change)),
+        Part::Number(number),
+        Part::Markup(Markup::RowFields),
+    ])?;
+    add_patterns(rows, &entry.group)
+}
+
+fn add_row<'p>(
     rows: &mut Sheet,
-    ingress: &Ingress,
+    ingress: Ingress<'p>,
     entry: &Entry,
-    words: &Words,
+    words: &'p Words,
 ) -> Result<(), NoMemory> {
-    rows.markup(row_start(entry.change))?;
-    rows.number(ingress.number)?;
-    rows.markup(Markup::RowFields)?;
-    add_patterns(rows, &entry.group)?;
-    rows.markup(Markup::RowPlace)?;
-    rows.name(&ingress.name)?;
-    rows.markup(change_cell(entry.change))?;
-    rows.name(&words.headers)?;
-    rows.markup(Markup::CellOld)?;
-    rows.name(&words.old)?;
-    rows.markup(Markup::CellNew)?;
-    rows.name(&words.new)?;
-    rows.markup(Markup::RowEnd)?;
-    add_told(rows, words.told)
+    add_row_start(rows, ingress.number, entry)?;
+    rows.parts(&[
+        Part::Markup(Markup::RowPlace),
+        Part::Name(ingress.name),
+        Part::Markup(change_cell(entry.change)),
+        Part::Name(&words.headers),
+        Part::Markup(Markup::CellOld),
+        Part::Name(&words.old),
+        Part::Markup(Markup::CellNew),
+        Part::Name(&words.new),
+        Part::Markup(Markup::RowEnd),
+    ])
 }
 
 // What is told of a group, folded behind its first line.
@@ -385,29 +437,28 @@ fn add_told(rows: &mut Sheet, told: &[u8]) -> Result<(), NoMemory> {
 
 fn add_line(
     lines: &mut Sheet,
-    ingress: &Ingress,
+    ingress: Ingress,
     entry: &Entry,
     words: &Words,
 ) -> Result<(), NoMemory> {
     lines.number(ingress.number)?;
     lines.markup(line_change(entry.change))?;
     add_patterns(lines, &entry.group)?;
-    lines.markup(Markup::Tab)?;
-    lines.text(&words.headers)?;
-    lines.markup(Markup::Tab)?;
-    lines.text(&words.old)?;
-    lines.markup(Markup::Tab)?;
-    lines.text(&words.new)?;
-    add_told_parts(lines, words.told)?;
-    lines.markup(Markup::LineEnd)
+    lines.parts(&[
+        Part::Markup(Markup::Tab),
+        Part::Text(&words.headers),
+        Part::Markup(Markup::Tab),
+        Part::Text(&words.old),
+        Part::Markup(Markup::Tab),
+        Part::Text(&words.new),
+    ])
 }
 
-// The lines of what is told of a group, each a further part.
+// The lines of what is told of a group, each a further part, and the end of its line.
 fn add_told_parts(lines: &mut Sheet, told: &[u8]) -> Result<(), NoMemory> {
-    if told.is_empty() {
-        return Ok(());
+    if !told.is_empty() {
+        lines.markup(Markup::Tab)?;
     }
-    lines.markup(Markup::Tab)?;
     for b in told {
         if *b == b'\n' {
             lines.markup(Markup::Tab)?;
@@ -415,7 +466,7 @@ fn add_told_parts(lines: &mut Sheet, told: &[u8]) -> Result<(), NoMemory> {
             lines.byte(*b)?;
         }
     }
-    Ok(())
+    lines.markup(Markup::LineEnd)
 }
 
 // The patterns of each field, each as the bits that are meant and the digits at those.
@@ -437,9 +488,11 @@ fn add_field(page: &mut Sheet, patterns: &[Pattern]) -> Result<(), NoMemory> {
         if !first {
             page.markup(Markup::Blank)?;
         }
-        page.number(u64::from(pattern.fixed))?;
-        page.markup(Markup::Colon)?;
-        page.number(u64::from(pattern.bits))?;
+        page.parts(&[
+            Part::Number(u64::from(pattern.fixed)),
+            Part::Markup(Markup::Colon),
+            Part::Number(u64::from(pattern.bits)),
+        ])?;
         first = false;
     }
     Ok(())

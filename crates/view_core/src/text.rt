@@ -1,14 +1,15 @@
 //! A report as text for a person.
 ghost use Rattle.std.specs.Prelude.{◌≡◌, ◌++◌, length, IfOk, OnOk};
-ghost use Rattle.report_text.specs.ReportText.{name_text, label_text};
+ghost use Rattle.report_text.specs.ReportText.{label_text};
 ghost use Rattle.view_core.specs.Groups.{change_words, headers_text, group_words, group_text};
 ghost use Rattle.view_core.specs.Views.{HasFront, title_line, summary_head};
 
+use crate::chunks::{Chunk, append_chunks, append_texts};
 use crate::fields::append_fields;
 use crate::summary::{Counts, append_changes, append_outcome_counts, count_change};
 use net_types::{List, Names, NoMemory, Outcome, Place, Section, Text};
 use report_groups::{Change, Entry, group_rows};
-use report_text::{append, append_number, outcome_bytes};
+use report_text::{append, append_number, name_of, outcome_bytes};
 use std::alloc::Global;
 
 /// The kinds of changes in the order in which they are shown.
@@ -42,19 +43,25 @@ pub(crate) fn view_bytes(
 ) -> Result<Vec<u8>, NoMemory>
     ensures { IfOk result (λ text. HasFront (title_line title.now ++ summary_head (length sections.now)) text.items) }
 {
-    let parts = parts_of(alloc, names, sections)?;
+    let mut parts = Vec::new(alloc);
+    append_parts_of(alloc, &mut parts, names, sections)?;
     let mut text = Vec::new(alloc);
-    append_head(&mut text, title.as_bytes(), sections.len())?;
-    append(&mut text, &parts)?;
+    append_view(&mut text, title.as_bytes(), sections.len(), &parts)?;
     Ok(text)
 }
 
-// The title, and how many ingresses there are.
-fn append_head(out: &mut Vec<u8>, title: &[u8], ingresses: usize) -> Result<(), NoMemory>
-    ensures { OnOk result (out.new.items ≡ out.old.items ++ (title_line title.now ++ summary_head ingresses)) }
+// The title, how many ingresses there are, and what stands behind that.
+fn append_view(
+    out: &mut Vec<u8>,
+    title: &[u8],
+    ingresses: usize,
+    parts: &[u8],
+) -> Result<(), NoMemory>
+    ensures { OnOk result (out.new.items ≡ out.old.items ++ ((title_line title.now ++ summary_head ingresses) ++ parts.now)) }
 {
     append_title(out, title)?;
     append_ingresses(out, ingresses)?;
+    append(out, parts)?;
     Ok(())
 }
 
@@ -73,12 +80,10 @@ fn append_title(out: &mut Vec<u8>, title: &[u8]) -> Result<(), NoMemory>
     if title.is_empty() {
         return Ok(());
     }
-    append(out, title)?;
-    append(out, b"\n")
+    append_texts(out, &[title, b"\n"])
 }
 
 // What is written of the ingresses: their lines in the summary, all loops, and their groups.
-#[derive(Drop)]
 struct Parts {
     counts: Counts,
     places: Vec<u8>,
@@ -87,8 +92,25 @@ struct Parts {
     untouched: u64,
 }
 
+impl Drop for Parts {
+    fn drop(self) {
+        let Parts {
+            counts: _,
+            places: _,
+            loops: _,
+            groups: _,
+            untouched: _,
+        } = self;
+    }
+}
+
 // What stands behind the head.
-fn parts_of(alloc: Global, names: &Names, sections: &[Section]) -> Result<Vec<u8>, NoMemory> {
+fn append_parts_of(
+    alloc: Global,
+    out: &mut Vec<u8>,
+    names: &Names,
+    sections: &[Section],
+) -> Result<(), NoMemory> {
     let mut parts = Parts {
         counts: Counts::new(alloc),
         places: Vec::new(alloc),
@@ -96,36 +118,55 @@ fn parts_of(alloc: Global, names: &Names, sections: &[Section]) -> Result<Vec<u8
         groups: Vec::new(alloc),
         untouched: 0,
     };
+    add_sections(alloc, &mut parts, names, sections)?;
+    append_parts(out, &parts, sections.len())
+}
+
+fn add_sections(
+    alloc: Global,
+    parts: &mut Parts,
+    names: &Names,
+    sections: &[Section],
+) -> Result<(), NoMemory> {
     for section in sections {
-        add_section(alloc, &mut parts, names, section)?;
+        add_section(alloc, parts, names, section)?;
     }
-    parts.counts.sort()?;
-    let mut text = Vec::new(alloc);
-    append_summary(&mut text, &parts, sections.len())?;
+    parts.counts.sort()
+}
+
+fn append_parts(out: &mut Vec<u8>, parts: &Parts, ingresses: usize) -> Result<(), NoMemory> {
+    append_summary(out, parts, ingresses)?;
     if !parts.loops.is_empty() {
-        append(&mut text, b"loops\n")?;
-        append(&mut text, &parts.loops)?;
-        append(&mut text, b"\n")?;
+        append_texts(out, &[b"loops\n", &parts.loops, b"\n"])?;
     }
-    append(&mut text, &parts.groups)?;
-    Ok(text)
+    append(out, &parts.groups)
 }
 
 // The counts by kind of change and by ingress, how many ingresses are untouched, and the counts by outcome.
 fn append_summary(out: &mut Vec<u8>, parts: &Parts, ingresses: usize) -> Result<(), NoMemory> {
     if parts.untouched == ingresses as u64 {
-        append(out, b"  no packet is treated differently at any of ")?;
-        append_number(out, ingresses)?;
-        return append(out, b" ingresses\n\n");
+        return append_chunks(
+            out,
+            &[
+                Chunk::Bytes(b"  no packet is treated differently at any of "),
+                Chunk::Number(ingresses as u64),
+                Chunk::Bytes(b" ingresses\n\n"),
+            ],
+        );
     }
     append_changes(out, &parts.counts.changes)?;
     append(out, &parts.places)?;
     if parts.untouched > 0 {
-        append(out, b"  nothing changes at ")?;
-        append_number(out, parts.untouched)?;
-        append(out, b" of ")?;
-        append_number(out, ingresses)?;
-        append(out, b" ingresses\n")?;
+        append_chunks(
+            out,
+            &[
+                Chunk::Bytes(b"  nothing changes at "),
+                Chunk::Number(parts.untouched),
+                Chunk::Bytes(b" of "),
+                Chunk::Number(ingresses as u64),
+                Chunk::Bytes(b" ingresses\n"),
+            ],
+        )?;
     }
     append_outcome_counts(out, &parts.counts)?;
     append(out, b"\n")
@@ -138,28 +179,42 @@ fn add_section(
     names: &Names,
     section: &Section,
 ) -> Result<(), NoMemory> {
-    let rows = section.rows.as_slice();
-    let entries = group_rows(alloc, rows)?;
+    let entries = group_rows(alloc, section.rows.as_slice())?;
+    add_entries(alloc, parts, names, section, &entries)
+}
+
+fn add_entries(
+    alloc: Global,
+    parts: &mut Parts,
+    names: &Names,
+    section: &Section,
+    entries: &[Entry],
+) -> Result<(), NoMemory> {
+    let rows = section.rows.as_slice().len();
     let mut kinds = [0; 5];
-    append_heading(
-        &mut parts.groups,
-        names,
-        section.place,
-        rows.len(),
-        entries.len(),
-    )?;
+    append_heading(&mut parts.groups, names, section.place, rows, entries.len())?;
     for change in &ORDER {
-        for entry in &entries {
+        for entry in entries {
             if entry.change == *change {
-                append_entry(alloc, &mut parts.groups, names, entry)?;
-                parts.counts.add(alloc, names, entry)?;
                 count_change(&mut kinds, *change);
-                add_loop(alloc, &mut parts.loops, names, section.place, entry)?;
+                add_entry(alloc, parts, names, section.place, entry)?;
             }
         }
     }
     append(&mut parts.groups, b"\n")?;
     add_place(parts, names, section, &kinds)
+}
+
+fn add_entry(
+    alloc: Global,
+    parts: &mut Parts,
+    names: &Names,
+    place: Place,
+    entry: &Entry,
+) -> Result<(), NoMemory> {
+    append_entry(alloc, &mut parts.groups, names, entry)?;
+    parts.counts.add(alloc, names, entry)?;
+    add_loop(alloc, &mut parts.loops, names, place, entry)
 }
 
 // The line of an ingress in the summary.
@@ -174,20 +229,29 @@ fn add_place(
         parts.untouched = parts.untouched.saturating_add(1);
         return Ok(());
     }
-    append(&mut parts.places, b"  ingress ")?;
-    append_place(&mut parts.places, names, section.place)?;
+    append_named(&mut parts.places, b"  ingress ", names, section.place)?;
     append(&mut parts.places, b": ")?;
     for k in 0..5 {
         if kinds[k] > 0 {
-            append(&mut parts.places, change_name(ORDER[k]))?;
-            append(&mut parts.places, b" ")?;
-            append_number(&mut parts.places, kinds[k])?;
-            append(&mut parts.places, b", ")?;
+            append_chunks(
+                &mut parts.places,
+                &[
+                    Chunk::Bytes(change_name(ORDER[k])),
+                    Chunk::Bytes(b" "),
+                    Chunk::Number(kinds[k]),
+                    Chunk::Bytes(b", "),
+                ],
+            )?;
         }
     }
-    append(&mut parts.places, b"rows ")?;
-    append_number(&mut parts.places, rows)?;
-    append(&mut parts.places, b"\n")
+    append_chunks(
+        &mut parts.places,
+        &[
+            Chunk::Bytes(b"rows "),
+            Chunk::Number(rows as u64),
+            Chunk::Bytes(b"\n"),
+        ],
+    )
 }
 
 // A loop behind its ingress.
@@ -201,8 +265,7 @@ fn add_loop(
     if entry.change != Change::Loops {
         return Ok(());
     }
-    append(loops, b"  ingress ")?;
-    append_place(loops, names, place)?;
+    append_named(loops, b"  ingress ", names, place)?;
     append_headers(alloc, loops, names, entry)?;
     append(loops, b"\n")
 }
@@ -214,22 +277,31 @@ fn append_heading(
     rows: usize,
     groups: usize,
 ) -> Result<(), NoMemory> {
-    append(out, b"ingress ")?;
-    append_place(out, names, place)?;
+    append_named(out, b"ingress ", names, place)?;
     if rows == 0 {
         return append(out, b": nothing changes\n");
     }
-    append(out, b": rows ")?;
-    append_number(out, rows)?;
-    append(out, b", groups ")?;
-    append_number(out, groups)?;
-    append(out, b"\n")
+    append_chunks(
+        out,
+        &[
+            Chunk::Bytes(b": rows "),
+            Chunk::Number(rows as u64),
+            Chunk::Bytes(b", groups "),
+            Chunk::Number(groups as u64),
+            Chunk::Bytes(b"\n"),
+        ],
+    )
 }
 
-pub(crate) fn append_place(out: &mut Vec<u8>, names: &Names, place: Place) -> Result<(), NoMemory> {
-    append(out, name_of(names, place.device))?;
-    append(out, b" ")?;
-    append(out, name_of(names, place.interface))
+/// The names of a place behind some words.
+pub(crate) fn append_named<'p>(
+    out: &mut Vec<u8>,
+    words: &'p [u8],
+    names: &'p Names,
+    place: Place,
+) -> Result<(), NoMemory> {
+    let device = name_of(names, place.device);
+    append_texts(out, &[words, device, b" ", name_of(names, place.interface)])
 }
 
 // One line: the change, the headers, and the outcomes.
@@ -239,8 +311,8 @@ fn append_entry(
     names: &Names,
     entry: &Entry,
 ) -> Result<(), NoMemory> {
-    append(out, b"  ")?;
-    append(out, &group_bytes(alloc, names, entry)?)
+    let line = group_bytes(alloc, names, entry)?;
+    append_texts(out, &[b"  ", &line])
 }
 
 /// The line of a group: its words, and the end of the line.
@@ -302,18 +374,8 @@ pub fn append_outcomes(
     };
     append(out, &outcome_bytes(alloc, names, first)?)?;
     for outcome in rest {
-        append(out, b" | ")?;
-        append(out, &outcome_bytes(alloc, names, outcome)?)?;
+        let text = outcome_bytes(alloc, names, outcome)?;
+        append_texts(out, &[b" | ", &text])?;
     }
     Ok(())
-}
-
-/// The name at a position; an empty one past the end.
-pub(crate) fn name_of(names: &Names, number: u32) -> &[u8]
-    ensures { result.now ≡ name_text names.now number }
-{
-    match names.texts.as_slice().get(number as usize) {
-        Some(text) => text.as_bytes(),
-        None => b"",
-    }
 }

@@ -11,10 +11,15 @@ use std::alloc::Global;
 use std::marker::Model;
 
 /// The moves of states, in order.
-#[derive(Drop)]
 pub(crate) struct Moves<'a> {
     world: WorldRef<'a>,
     moves: IndexMap<StateKey, List<Move>>,
+}
+
+impl<'a> Drop for Moves<'a> {
+    fn drop(self) {
+        let Moves { world: _, moves: _ } = self;
+    }
 }
 
 impl<'a> Model for Moves<'a> {

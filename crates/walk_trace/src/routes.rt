@@ -13,13 +13,22 @@ use std::alloc::Global;
 use std::marker::Model;
 
 /// The installed routes of devices that were asked, and the choices that they gave. What isn't kept is found anew.
-#[derive(Drop)]
 pub(crate) struct Routes<'a> {
     world: WorldRef<'a>,
     /// By the number of the device's name.
     ribs: IndexMap<u32, Rib>,
     /// By the number of the device's name and the address.
     choices: IndexMap<(u32, u32), List<Hop>>,
+}
+
+impl<'a> Drop for Routes<'a> {
+    fn drop(self) {
+        let Routes {
+            world: _,
+            ribs: _,
+            choices: _,
+        } = self;
+    }
 }
 
 impl<'a> Model for Routes<'a> {

@@ -19,9 +19,14 @@ pub(crate) struct StateKey {
 }
 
 /// States in the order in which they were added, each once. A state is found without a scan.
-#[derive(Drop)]
 pub(crate) struct States {
     keys: IndexSet<StateKey>,
+}
+
+impl Drop for States {
+    fn drop(self) {
+        let States { keys: _ } = self;
+    }
 }
 
 impl Model for States {

@@ -2,15 +2,17 @@
 
 ghost use Rattle.std.specs.Prelude.{◌≡◌, ◌++◌, codes, decimal, flat_map, IfOk, OnOk};
 ghost use Rattle.report_text.specs.FieldText.{address_text, header_text};
-ghost use Rattle.report_text.specs.ReportText.{name_text, place_text, change_text, outcome_text, label_text};
+ghost use Rattle.report_text.specs.ReportText.{change_text, outcome_text, label_text};
 ghost use Rattle.walk_trace.specs.TraceText.{verdict_text, list_text, written_text, go_text, fate_text, choice_text, arrival_text};
 ghost use Rattle.walk_trace.specs.TraceText.{end_text, state_text, states_text, trace_text};
 
 use crate::types::{Trace, TraceChoice, TraceEnd, TraceFate, TraceState};
 use hdr_bits::Header;
-use net_types::{Label, Names, NoMemory, Outcome, Place, Text, Verdict};
+use net_types::{Label, Names, NoMemory, Outcome, Text, Verdict};
+use report_text::TextPart::{Bytes, Number};
 use report_text::{
-    append, append_address, append_number, header_bytes, label_bytes, outcome_bytes,
+    append, append_address, append_all, append_number, append_place, header_bytes, label_bytes,
+    name_of, outcome_bytes,
 };
 use std::alloc::Global;
 
@@ -89,24 +91,6 @@ fn append_label(
     append(out, &text)
 }
 
-fn append_name(out: &mut Vec<u8>, names: &Names, number: u32) -> Result<(), NoMemory>
-    ensures { OnOk result (out.new.items ≡ out.old.items ++ name_text names.now number) }
-{
-    match names.texts.as_slice().get(number as usize) {
-        Some(text) => append(out, text.as_bytes()),
-        None => Ok(()),
-    }
-}
-
-#[tactic(auto, unfolding(report_text::specs::ReportText::place_text))]
-fn append_place(out: &mut Vec<u8>, names: &Names, place: Place) -> Result<(), NoMemory>
-    ensures { OnOk result (out.new.items ≡ out.old.items ++ place_text names.now place) }
-{
-    append_name(out, names, place.device)?;
-    append(out, b" ")?;
-    append_name(out, names, place.interface)
-}
-
 fn append_states(
     alloc: Global,
     out: &mut Vec<u8>,
@@ -131,9 +115,10 @@ fn append_state(
 ) -> Result<(), NoMemory>
     ensures { OnOk result (out.new.items ≡ out.old.items ++ state_text names.now number state.now) }
 {
-    append(out, b"state ")?;
-    append_number(out, number)?;
-    append(out, b" at ")?;
+    append_all(
+        out,
+        &[Bytes(b"state "), Number(number as u128), Bytes(b" at ")],
+    )?;
     append_place(out, names, state.place)?;
     append(out, b" ")?;
     append_header(alloc, out, &state.header)?;
@@ -214,9 +199,14 @@ fn append_choice(
             verdict,
             fate,
         } => {
-            append(out, b"out ")?;
-            append_name(out, names, place.interface)?;
-            append(out, b" next ")?;
+            append_all(
+                out,
+                &[
+                    Bytes(b"out "),
+                    Bytes(name_of(names, place.interface)),
+                    Bytes(b" next "),
+                ],
+            )?;
             append_address(out, *next)?;
             append(out, b"\n")?;
             append_written(out, b"nat src ", b" sport ", *src, *sport)?;
@@ -252,11 +242,7 @@ fn append_go(out: &mut Vec<u8>, state: Option<u64>) -> Result<(), NoMemory>
 {
     match state {
         None => append(out, b"go -\n"),
-        Some(number) => {
-            append(out, b"go ")?;
-            append_number(out, number)?;
-            append(out, b"\n")
-        }
+        Some(number) => { append_all(out, &[Bytes(b"go "), Number(number.into()), Bytes(b"\n")]) }
     }
 }
 
@@ -284,27 +270,28 @@ fn append_verdict(out: &mut Vec<u8>, name: &[u8], verdict: Verdict) -> Result<()
         Verdict::Passed => append(out, b" none\n"),
         Verdict::Permit { sequence } => append_decided(out, name, b" permit ", sequence),
         Verdict::Deny { sequence } => append_decided(out, name, b" deny ", sequence),
-        Verdict::DenyEnd => {
-            append(out, b" ")?;
-            append(out, name)?;
-            append(out, b" deny end\n")
-        }
+        Verdict::DenyEnd => { append_all(out, &[Bytes(b" "), Bytes(name), Bytes(b" deny end\n")]) }
     }
 }
 
-fn append_decided(
+fn append_decided<'a>(
     out: &mut Vec<u8>,
-    name: &[u8],
-    word: &[u8],
+    name: &'a [u8],
+    word: &'a [u8],
     sequence: u32,
 ) -> Result<(), NoMemory>
     ensures { OnOk result (out.new.items ≡ out.old.items ++ (codes " " ++ name.now ++ word.now ++ decimal sequence ++ codes "\n")) }
 {
-    append(out, b" ")?;
-    append(out, name)?;
-    append(out, word)?;
-    append_number(out, sequence)?;
-    append(out, b"\n")
+    append_all(
+        out,
+        &[
+            Bytes(b" "),
+            Bytes(name),
+            Bytes(word),
+            Number(sequence.into()),
+            Bytes(b"\n"),
+        ],
+    )
 }
 
 // The line of what a rule wrote, if one matched.

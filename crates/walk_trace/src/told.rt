@@ -136,8 +136,8 @@ fn taken_in(
     requires { IsSeated frame.site.now (seat_of seat) }
     ensures { IfOk result (λ told. told ≡ taken_in frame.entry.site.now frame.entry.numbers.now frame.entry.first.now state.now (seat_of seat.entry) verdict written) }
 {
-    let end = end_in(alloc, frame, seat, &coming_in(seat, &state.header))?;
     let input = tried(alloc, verdict, &seat.interface.input)?;
+    let end = end_in(alloc, frame, seat, &coming_in(seat, &state.header))?;
     Ok(TraceState {
         place: state.place,
         header: state.header,

@@ -4,7 +4,6 @@ use hdr_bits::Header;
 use net_types::{Label, List, Outcome, Place, Text, Verdict};
 
 /// What becomes of one packet, with the reasons.
-#[derive(Drop)]
 pub struct Trace {
     /// The numbered states in the order of their numbers, from 1: the first is the ingress, with the packet's header.
     pub states: List<TraceState>,
@@ -12,8 +11,16 @@ pub struct Trace {
     pub outcome: Label,
 }
 
+impl Drop for Trace {
+    fn drop(self) {
+        let Trace {
+            states: _,
+            outcome: _,
+        } = self;
+    }
+}
+
 /// What a device does with the packet when it arrives at a place with a header.
-#[derive(Drop)]
 pub struct TraceState {
     pub place: Place,
     pub header: Header,
@@ -28,6 +35,21 @@ pub struct TraceState {
     /// The address that an outer rule wrote as the source, from outside.
     pub src: Option<u32>,
     pub end: TraceEnd,
+}
+
+impl Drop for TraceState {
+    fn drop(self) {
+        let TraceState {
+            place: _,
+            header: _,
+            input: _,
+            verdict: _,
+            dst: _,
+            dport: _,
+            src: _,
+            end: _,
+        } = self;
+    }
 }
 
 /// How far the packet gets in a device.

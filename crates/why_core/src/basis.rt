@@ -5,7 +5,6 @@ use topo_links::LinkTable;
 use walk_trace::Site;
 
 /// The names of a report's places, and two networks with theirs.
-#[derive(Drop)]
 pub struct Basis<'a> {
     /// The names that the report's own lines have.
     pub report: &'a Names,
@@ -17,4 +16,16 @@ pub struct Basis<'a> {
     pub before: Site<'a>,
     /// The new network.
     pub after: Site<'a>,
+}
+
+impl<'a> Drop for Basis<'a> {
+    fn drop(self) {
+        let Basis {
+            report: _,
+            names: _,
+            links: _,
+            before: _,
+            after: _,
+        } = self;
+    }
 }

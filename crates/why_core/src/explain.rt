@@ -2,11 +2,10 @@
 
 ghost use Rattle.std.specs.Prelude.{◌≡◌, ◌++◌, ◌∷◌, [], None, IfOk, IfSome, IsTrue, OnOk, Contains, length, map};
 ghost use Rattle.std.specs.List.{list_all};
-ghost use Rattle.why_core.specs.Cases.{Case, case_in, ground_of, is_right, packet_text, told_text};
+ghost use Rattle.why_core.specs.Cases.{Case, case_in, ground_of, has_outcomes, is_right, packet_text, told_text};
 ghost use Rattle.why_core.specs.Shown.{case_shown, shown_of};
 ghost use Rattle.why_core.specs.Told.{IsTold, IsToldOf, IsWrong, AreRight};
 
-use crate::append::append_place;
 use crate::basis::Basis;
 use crate::cases::{CaseRef, cases_of, explained, groups_of};
 use crate::gathered::gathered;
@@ -17,7 +16,7 @@ use crate::words::{FIRST_TTL, Form, Manner};
 use hdr_bits::Header;
 use net_types::{Names, NoMemory, Place, Section};
 use report_groups::least_header;
-use report_text::{append, header_bytes};
+use report_text::{append, append_place, header_bytes};
 use std::alloc::Global;
 use trace_sides::sides_bytes;
 use view_core::group_bytes;
@@ -33,11 +32,20 @@ pub enum Told {
 }
 
 /// A header, and what becomes of it in both networks.
-#[derive(Drop)]
 pub(crate) struct Followed {
     pub(crate) header: Header,
     pub(crate) old: Trace,
     pub(crate) new: Trace,
+}
+
+impl Drop for Followed {
+    fn drop(self) {
+        let Followed {
+            header: _,
+            old: _,
+            new: _,
+        } = self;
+    }
 }
 
 /// The explanation of a report's groups, of all or the first hundred; or that it is one of other networks.
@@ -119,11 +127,32 @@ fn add_case(
     let header = least_header(&case.entry.group);
     let old = trace_on(alloc, &mut basis.before, case.place, &header, FIRST_TTL)?;
     let new = trace_on(alloc, &mut basis.after, case.place, &header, FIRST_TTL)?;
-    if !has_outcomes(alloc, basis.report, basis.names, case.entry, &old, &new)? {
+    let followed = Followed { header, old, new };
+    add_followed(alloc, told, basis, case, &followed, form)
+}
+
+fn add_followed(
+    alloc: Global,
+    told: &mut Vec<Vec<u8>>,
+    basis: &Basis,
+    case: CaseRef,
+    followed: &Followed,
+    form: Form,
+) -> Result<bool, NoMemory>
+    ensures right { IfOk result (λ right. right ≡ has_outcomes basis.now.report.now basis.now.names.now case.entry.entry.now followed.now.old followed.now.new) }
+    ensures told { IfOk result (λ right. IsTrue right → map (λ text. text.items) told.new.items ≡ map (λ text. text.items) told.old.items ++ shown_of form basis.now.report.now basis.now.names.now (case_in case.entry) followed.now.header followed.now.old followed.now.new ∷ []) }
+{
+    if !has_outcomes(
+        alloc,
+        basis.report,
+        basis.names,
+        case.entry,
+        &followed.old,
+        &followed.new,
+    )? {
         return Ok(false);
     }
-    let text = shown(alloc, basis, case, &Followed { header, old, new }, form)?;
-    told.push(text)?;
+    told.push(shown(alloc, basis, case, followed, form)?)?;
     Ok(true)
 }
 
@@ -145,7 +174,6 @@ fn shown(
 }
 
 // The line of a group, and its header with its traces.
-#[tactic(auto, unfolding(crate::specs::Cases::told_text))]
 fn told_bytes(
     alloc: Global,
     basis: &Basis,
@@ -154,29 +182,52 @@ fn told_bytes(
 ) -> Result<Vec<u8>, NoMemory>
     ensures { IfOk result (λ text. text.items ≡ told_text basis.now.report.now basis.now.names.now (case_in case.entry) followed.now.header followed.now.old followed.now.new) }
 {
-    let group = group_bytes(alloc, basis.report, case.entry)?;
-    let packet = packet_bytes(alloc, basis.names, followed)?;
     let mut text = Vec::new(alloc);
-    append(&mut text, b"ingress ")?;
-    append_place(&mut text, basis.report, case.section.place)?;
-    append(&mut text, b": ")?;
-    append(&mut text, &group)?;
-    append(&mut text, &packet)?;
-    append(&mut text, b"\n")?;
+    append_told(alloc, &mut text, basis, case, followed)?;
     Ok(text)
 }
 
+#[tactic(auto, unfolding(crate::specs::Cases::told_text))]
+fn append_told(
+    alloc: Global,
+    out: &mut Vec<u8>,
+    basis: &Basis,
+    case: CaseRef,
+    followed: &Followed,
+) -> Result<(), NoMemory>
+    ensures { OnOk result (out.new.items ≡ out.old.items ++ told_text basis.now.report.now basis.now.names.now (case_in case.entry) followed.now.header followed.now.old followed.now.new) }
+{
+    append(out, b"ingress ")?;
+    append_place(out, basis.report, case.section.place)?;
+    append(out, b": ")?;
+    append(out, &group_bytes(alloc, basis.report, case.entry)?)?;
+    append_packet(alloc, out, basis.names, followed)?;
+    append(out, b"\n")
+}
+
 // A header, and its traces.
-#[tactic(auto, unfolding(crate::specs::Cases::packet_text))]
 fn packet_bytes(alloc: Global, names: &Names, followed: &Followed) -> Result<Vec<u8>, NoMemory>
     ensures { IfOk result (λ text. text.items ≡ packet_text names.now followed.now.header followed.now.old followed.now.new) }
 {
-    let packet = header_bytes(alloc, &followed.header)?;
-    let sides = sides_bytes(alloc, names, &followed.old, &followed.new)?;
     let mut text = Vec::new(alloc);
-    append(&mut text, b"packet ")?;
-    append(&mut text, &packet)?;
-    append(&mut text, b"\n")?;
-    append(&mut text, &sides)?;
+    append_packet(alloc, &mut text, names, followed)?;
     Ok(text)
+}
+
+#[tactic(auto, unfolding(crate::specs::Cases::packet_text))]
+fn append_packet(
+    alloc: Global,
+    out: &mut Vec<u8>,
+    names: &Names,
+    followed: &Followed,
+) -> Result<(), NoMemory>
+    ensures { OnOk result (out.new.items ≡ out.old.items ++ packet_text names.now followed.now.header followed.now.old followed.now.new) }
+{
+    append(out, b"packet ")?;
+    append(out, &header_bytes(alloc, &followed.header)?)?;
+    append(out, b"\n")?;
+    append(
+        out,
+        &sides_bytes(alloc, names, &followed.old, &followed.new)?,
+    )
 }

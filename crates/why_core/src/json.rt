@@ -3,6 +3,7 @@
 ghost use Rattle.std.specs.Prelude.{◌≡◌, ◌++◌, codes, filter, IfOk, OnOk, length, map};
 ghost use Rattle.std.specs.List.{join_by};
 ghost use Rattle.net_text.specs.Lines.{is_line_end};
+ghost use Rattle.trace_sides.specs.Sides.{first_text, shared};
 ghost use Rattle.view_core.specs.Json.{string_text};
 ghost use Rattle.why_core.specs.Cases.{case_in};
 ghost use Rattle.why_core.specs.ShownJson.{entry_members, line_count, lines_json, packet_members, sides_members, told_json, told_lines, traces_front, traces_json, traces_schema};
@@ -14,7 +15,8 @@ use crate::explain::Followed;
 use crate::words::TracesWords;
 use hdr_bits::Header;
 use net_types::{Names, NoMemory};
-use report_text::{append, append_number};
+use report_text::TextPart::{Bytes, Number};
+use report_text::{append, append_all};
 use std::alloc::Global;
 use trace_sides::{first_bytes, shared};
 use view_core::{
@@ -25,7 +27,6 @@ use walk_trace::{Trace, trace_bytes};
 // Each function that adds a text adds it at the end. Where memory runs out, a part of the text may stand there.
 
 /// The object of a group: its ingress and its words, its packet, and the packet's traces.
-#[tactic(auto, unfolding(crate::specs::ShownJson::told_json))]
 pub(crate) fn told_json(
     alloc: Global,
     basis: &Basis,
@@ -34,23 +35,39 @@ pub(crate) fn told_json(
 ) -> Result<Vec<u8>, NoMemory>
     ensures { IfOk result (λ text. text.items ≡ told_json basis.now.report.now basis.now.names.now (case_in case.entry) followed.now.header followed.now.old followed.now.new) }
 {
-    let words = group_words(alloc, basis.report, case.entry)?;
     let mut text = Vec::new(alloc);
-    append(&mut text, b"{")?;
-    append_place_members(&mut text, basis.report, case.section.place)?;
-    append(&mut text, b", ")?;
-    append_member(&mut text, b"group", &words)?;
-    append(&mut text, b", ")?;
+    append_told(alloc, &mut text, basis, case, followed)?;
+    Ok(text)
+}
+
+#[tactic(auto, unfolding(crate::specs::ShownJson::told_json))]
+fn append_told(
+    alloc: Global,
+    out: &mut Vec<u8>,
+    basis: &Basis,
+    case: CaseRef,
+    followed: &Followed,
+) -> Result<(), NoMemory>
+    ensures { OnOk result (out.new.items ≡ out.old.items ++ told_json basis.now.report.now basis.now.names.now (case_in case.entry) followed.now.header followed.now.old followed.now.new) }
+{
+    append(out, b"{")?;
+    append_place_members(out, basis.report, case.section.place)?;
+    append(out, b", ")?;
+    append_member(
+        out,
+        b"group",
+        &group_words(alloc, basis.report, case.entry)?,
+    )?;
+    append(out, b", ")?;
     append_packet(
         alloc,
-        &mut text,
+        out,
         basis.names,
         &followed.header,
         &followed.old,
         &followed.new,
     )?;
-    append(&mut text, b"}")?;
-    Ok(text)
+    append(out, b"}")
 }
 
 /// The document of two traces.
@@ -131,14 +148,27 @@ fn append_sides(
 ) -> Result<(), NoMemory>
     ensures { OnOk result (out.new.items ≡ out.old.items ++ sides_members names.now old.now new.now) }
 {
-    let count = shared(alloc, names, old, new)?;
-    let both = first_bytes(alloc, names, count, old)?;
-    append(out, b"\"parts\": ")?;
-    append_number(out, line_count(&both))?;
-    append(out, b", \"old\": ")?;
+    let count = shared_lines(alloc, names, old, new)?;
+    append_all(
+        out,
+        &[
+            Bytes(b"\"parts\": "),
+            Number(count as u128),
+            Bytes(b", \"old\": "),
+        ],
+    )?;
     append_lines(alloc, out, &trace_bytes(alloc, names, old)?)?;
     append(out, b", \"new\": ")?;
     append_lines(alloc, out, &trace_bytes(alloc, names, new)?)
+}
+
+// With how many lines both traces begin.
+fn shared_lines(alloc: Global, names: &Names, old: &Trace, new: &Trace) -> Result<usize, NoMemory>
+    ensures { IfOk result (λ n. n ≡ line_count (first_text names.now (shared names.now old.now new.now) old.now)) }
+{
+    let count = shared(alloc, names, old, new)?;
+    let both = first_bytes(alloc, names, count, old)?;
+    Ok(line_count(&both))
 }
 
 fn line_count(text: &[u8]) -> usize

@@ -3,7 +3,6 @@
 //! `why_run` is the program `view --why` on any files and sinks, and `traces_run` is `view --traces`, which follows one packet.
 #![tactic(auto)]
 
-mod append;
 mod basis;
 mod cases;
 mod explain;

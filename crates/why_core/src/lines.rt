@@ -7,9 +7,8 @@ ghost use Rattle.view_core.specs.Names.{text_lines};
 ghost use Rattle.view_core.specs.Reports.{report_limit};
 ghost use Rattle.why_core.specs.Lines.{head_or_end, head_text, line_of};
 
-use crate::append::append_place;
 use net_types::{Names, NoMemory, Section};
-use report_text::{append, append_number};
+use report_text::{append, append_number, append_place};
 use std::alloc::Global;
 
 /// The line with which a section begins; nothing where there is none.

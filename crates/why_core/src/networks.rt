@@ -15,11 +15,20 @@ use std::alloc::Global;
 use topo_links::LinkTable;
 
 /// Two networks, each by its configurations, and the link table that wires both.
-#[derive(Drop)]
 pub struct Networks {
     pub old: Vec<Loaded>,
     pub new: Vec<Loaded>,
     pub links: LinkTable,
+}
+
+impl Drop for Networks {
+    fn drop(self) {
+        let Networks {
+            old: _,
+            new: _,
+            links: _,
+        } = self;
+    }
 }
 
 /// The networks of two folders: the old folder is read, then the new one, then the link table, as for a comparison.
@@ -85,23 +94,26 @@ fn read_linked<F: Files>(
 }
 
 /// Both networks over one list of names, and the table that wires them.
-#[derive(Drop)]
 pub struct Wired {
     pub both: NumberedBoth,
     pub links: LinkTable,
 }
 
-/// Both networks over one list of names, which has these names too.
-pub(crate) fn number_networks(
-    alloc: Global,
-    networks: Networks,
-    extra: &[Text],
-) -> Result<Wired, NoMemory>
-    requires few { AreFew networks }
-    requires extra { length extra.now ≤ 2 }
-    ensures { IfOk result (λ wired. wired.both ≡ numbered_both networks.old.items networks.new.items networks.links networks.links extra.now) }
-{
-    let Networks { old, new, links } = networks;
-    let both = number_both(alloc, old, new, &links, &links, extra)?;
-    Ok(Wired { both, links })
+impl Drop for Wired {
+    fn drop(self) {
+        let Wired { both: _, links: _ } = self;
+    }
+}
+
+impl Networks {
+    /// Both networks over one list of names, which has these names too.
+    pub(crate) fn number(self, alloc: Global, extra: &[Text]) -> Result<Wired, NoMemory>
+        requires few { AreFew self }
+        requires extra { length extra.now ≤ 2 }
+        ensures { IfOk result (λ wired. wired.both ≡ numbered_both self.old.items self.new.items self.links self.links extra.now) }
+    {
+        let Networks { old, new, links } = self;
+        let both = number_both(alloc, old, new, &links, &links, extra)?;
+        Ok(Wired { both, links })
+    }
 }

@@ -12,7 +12,7 @@ use net_types::{Names, NoMemory};
 use report_text::header_bytes;
 use std::alloc::Global;
 use trace_sides::{first_bytes, rest_bytes, shared};
-use view_core::{Markup, Sheet, Ways, add_ways, first_difference, lines_of, page_with};
+use view_core::{Markup, Part, Sheet, Ways, add_ways, first_difference, lines_of, page_with};
 use walk_trace::Trace;
 
 /// The page: the packet and where the networks part, what both do with it, what each goes on with side by side, and the network with
@@ -44,21 +44,27 @@ fn add_summary(
     asked: TracesWords,
     ways: &Ways,
 ) -> Result<(), NoMemory> {
-    page.markup(Markup::Head)?;
-    page.markup(Markup::TracesTitle)?;
-    page.markup(Markup::Style)?;
-    page.markup(Markup::TracesTitle)?;
-    page.markup(Markup::Summary)?;
-    page.markup(Markup::Some)?;
-    page.text(b"packet ")?;
+    page.parts(&[
+        Part::Markup(Markup::Head),
+        Part::Markup(Markup::TracesTitle),
+        Part::Markup(Markup::Style),
+        Part::Markup(Markup::TracesTitle),
+        Part::Markup(Markup::Summary),
+        Part::Markup(Markup::Some),
+        Part::Text(b"packet "),
+    ])?;
     page.text(&header_bytes(alloc, &asked.header)?)?;
-    page.text(b" at ")?;
-    page.name(asked.device.as_bytes())?;
-    page.markup(Markup::Blank)?;
-    page.name(asked.interface.as_bytes())?;
+    page.parts(&[
+        Part::Text(b" at "),
+        Part::Name(asked.device.as_bytes()),
+        Part::Markup(Markup::Blank),
+        Part::Name(asked.interface.as_bytes()),
+    ])?;
     add_parting(alloc, page, ways)?;
-    page.markup(Markup::SummaryEnd)?;
-    page.markup(Markup::SectionEnd)
+    page.parts(&[
+        Part::Markup(Markup::SummaryEnd),
+        Part::Markup(Markup::SectionEnd),
+    ])
 }
 
 // Where the networks part, or that they do the same.
@@ -69,8 +75,7 @@ fn add_parting(alloc: Global, page: &mut Sheet, ways: &Ways) -> Result<(), NoMem
     page.text(b": the networks part at")?;
     let names = ways.parts.copies(alloc)?;
     for name in names.as_slice() {
-        page.markup(Markup::Blank)?;
-        page.text(name.as_bytes())?;
+        page.parts(&[Part::Markup(Markup::Blank), Part::Text(name.as_bytes())])?;
     }
     Ok(())
 }
@@ -127,10 +132,11 @@ fn add_lines(page: &mut Sheet, lines: &[&[u8]], marked: u64) -> Result<(), NoMem
 
 fn add_line(page: &mut Sheet, line: &[u8], marked: bool) -> Result<(), NoMemory> {
     if marked {
-        page.markup(Markup::Mark)?;
-        page.text(line)?;
-        return page.markup(Markup::MarkEnd);
+        return page.parts(&[
+            Part::Markup(Markup::Mark),
+            Part::Text(line),
+            Part::Markup(Markup::MarkEnd),
+        ]);
     }
-    page.text(line)?;
-    page.markup(Markup::LineEnd)
+    page.parts(&[Part::Text(line), Part::Markup(Markup::LineEnd)])
 }

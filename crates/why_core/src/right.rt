@@ -6,10 +6,9 @@ ghost use Rattle.net_types.specs.declared.label.Outcome.{Outcome};
 ghost use Rattle.report_text.specs.ReportText.{label_text, place_text};
 ghost use Rattle.why_core.specs.Cases.{agreeing, has_outcomes};
 
-use crate::append::append_place;
 use net_types::{Label, List, Names, NoMemory, Outcome, Place, Section};
 use report_groups::Entry;
-use report_text::label_bytes;
+use report_text::{append_place, label_bytes};
 use std::alloc::Global;
 use view_core::append_outcomes;
 use walk_trace::Trace;

@@ -13,7 +13,7 @@ ghost use Rattle.why_core.specs.Traces.{AreTraces, Does, Follows, IsAccepted, Is
 ghost use Rattle.why_core.specs.Words.{traces_in};
 
 use crate::json::traces_json;
-use crate::networks::{Networks, Wired, number_networks, read_networks};
+use crate::networks::{Networks, Wired, read_networks};
 use crate::page::traces_page;
 use crate::words::{FIRST_TTL, Form, TracesWords, traces_of};
 use job_core::{Report, Stop, finish, no_memory, refuse};
@@ -78,7 +78,7 @@ fn followed(alloc: Global, networks: Networks, asked: TracesWords) -> Result<Rep
     ensures { IfOk result (AreTraces (numbered_for networks (traces_in asked.entry)) (traces_in asked.entry)) }
 {
     let names = names_of(alloc, asked)?;
-    let wired = number_networks(alloc, networks, &names)?;
+    let wired = networks.number(alloc, &names)?;
     let text = traces_bytes(alloc, &wired, asked)?;
     Ok(Report {
         text,

@@ -1,11 +1,11 @@
 //! The ways of a packet through two networks, for their picture.
 
 ghost use Rattle.std.specs.Prelude.{◌≡◌, ◌≤◌, IfOk, OnOk, length, map};
-ghost use Rattle.report_text.specs.ReportText.{name_text};
 ghost use Rattle.topo_links.specs.Names.{add_names};
 ghost use Rattle.why_core.specs.Ways.{AreWays, device_at, devices_at, next_state};
 
 use net_types::{Names, NoMemory, Text};
+use report_text::name_of;
 use std::alloc::Global;
 use topo_links::NameIndex;
 use view_core::Ways;
@@ -71,14 +71,5 @@ fn next_state(states: &[TraceState], count: usize) -> &[TraceState]
     match rest.len() {
         0 => rest,
         _ => &rest[..1],
-    }
-}
-
-fn name_of(names: &Names, number: u32) -> &[u8]
-    ensures { result.now ≡ name_text names.now number }
-{
-    match names.texts.as_slice().get(number as usize) {
-        Some(text) => text.as_bytes(),
-        None => &[],
     }
 }

@@ -14,7 +14,7 @@ ghost use Rattle.why_core.specs.Words.{why_in};
 use crate::basis::Basis;
 use crate::explain::{Told, explanation};
 use crate::lines::line_of;
-use crate::networks::{Networks, Wired, number_networks, read_networks};
+use crate::networks::{Networks, Wired, read_networks};
 use crate::words::{Manner, WhyWords, why_of};
 use job_core::{Report, Stop, finish, refuse};
 use net_io::{Files, Sink};
@@ -114,7 +114,7 @@ fn judge(
     ensures plain { IfOk result (λ r. r.affected ≡ false) }
     ensures read { IfErr result WasRead }
 {
-    let wired = number_networks(alloc, networks, &[])?;
+    let wired = networks.number(alloc, &[])?;
     let told = tell(alloc, &wired, reported, asked.manner)?;
     match told {
         Told::Explained { text } => Ok(Report {

@@ -1,0 +1,55 @@
+//! Texts that are added in one call.
+ghost use Rattle.std.specs.Prelude.{◌≡◌, ◌++◌, OnOk};
+ghost use Rattle.std.specs.List.{flat_map};
+ghost use Rattle.view_core.specs.Chunks.{chunk_text};
+
+use crate::csv::append_quoted;
+use crate::json::append_string;
+use net_types::NoMemory;
+use report_text::{append, append_number};
+
+/// A part of a text.
+#[derive(Clone, Copy)]
+pub(crate) enum Chunk<'a> {
+    Bytes(&'a [u8]),
+    /// A number in decimal.
+    Number(u64),
+    /// A count in decimal.
+    Count(u128),
+    /// A part of a line of a table, in quotes.
+    Quoted(&'a [u8]),
+    /// A string of JSON.
+    String(&'a [u8]),
+}
+
+/// Adds chunks, one after the other. Where memory runs out, a part of them may stand there.
+pub(crate) fn append_chunks(out: &mut Vec<u8>, chunks: &[Chunk]) -> Result<(), NoMemory>
+    ensures { OnOk result (out.new.items ≡ out.old.items ++ flat_map chunk_text chunks.now) }
+{
+    for chunk in chunks {
+        append_chunk(out, chunk)?;
+    }
+    Ok(())
+}
+
+fn append_chunk(out: &mut Vec<u8>, chunk: &Chunk) -> Result<(), NoMemory>
+    ensures { OnOk result (out.new.items ≡ out.old.items ++ chunk_text chunk.now) }
+{
+    match *chunk {
+        Chunk::Bytes(bytes) => append(out, bytes),
+        Chunk::Number(number) => append_number(out, number),
+        Chunk::Count(count) => append_number(out, count),
+        Chunk::Quoted(text) => append_quoted(out, text),
+        Chunk::String(text) => append_string(out, text),
+    }
+}
+
+/// Adds texts, likewise.
+pub(crate) fn append_texts(out: &mut Vec<u8>, texts: &[&[u8]]) -> Result<(), NoMemory>
+    ensures { OnOk result (out.new.items ≡ out.old.items ++ flat_map (λ text. text.now) texts.now) }
+{
+    for text in texts {
+        append(out, text)?;
+    }
+    Ok(())
+}
