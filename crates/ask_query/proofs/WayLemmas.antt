@@ -1,5 +1,5 @@
 -- Sets that grow way by way.
-use Rattle.std.proofs.Common.{ℕ, zero, suc, ◌≡◌, ◌<◌, ◌+◌, ◌⊎◌, ◌↔◌, inl, inr, List, [], ◌∷◌, ◌++◌, Some, None, take, length, get_or, slice_get, refl, sym, ap, subst, ◌∙◌, arith}
+use Rattle.std.proofs.Common.{ℕ, zero, suc, ◌≡◌, ◌<◌, ◌+◌, ◌⊎◌, ◌↔◌, inl, inr, List, [], ◌∷◌, ◌++◌, Some, None, take, length, get_or, slice_get, Result, Ok, Err, IfOk, refl, sym, ap, subst, ◌∙◌, arith}
 use Rattle.std.specs.Prelude.{Contains}
 use Rattle.std.proofs.lemmas.List.{take_more}
 use Rattle.std.proofs.lemmas.List.Elements.{Contains-append_cases, Contains-append_left, Contains-append_right}
@@ -13,6 +13,11 @@ use Rattle.set_walk.specs.Sets.{InSet, IsSetOf}
 use Rattle.set_walk.proofs.SetLemmas.{kept_set}
 use Rattle.ask_query.specs.Looping.{ByWay}
 use Rattle.ask_query.proofs.ReachingLemmas.{empty_set}
+
+-- what is so by two things that are said of a value
+pub ok_both : {T E : Type 0} (r : Result T E) (P Q R : T → Type 0) → ((x : T) → P x → Q x → R x) → IfOk r P → IfOk r Q → IfOk r R
+ok_both (Ok x) P Q R f p q = f x p q
+ok_both (Err e) P Q R f p q = tt
 
 module _ (f : Functions) (base : Header → Type 0) (Q : Step → Header → Type 0) where
   pub by_none : (h : Header) → ByWay f [] Q h → ⊥

@@ -84,18 +84,9 @@ fn breaking(
     ensures kept { Keeps table.old table.new }
 {
     match question.kind {
-        QuestionKind::Reach => {
-            let set = not_reaching(alloc, table, asked, walks, question)?;
-            Ok(set)
-        }
-        QuestionKind::Isolate => {
-            let set = reaching(alloc, table, asked, walks, question)?;
-            Ok(set)
-        }
-        QuestionKind::NoLoop => {
-            let set = filtered_loops(alloc, table, asked, question)?;
-            Ok(set)
-        }
+        QuestionKind::Reach => not_reaching(alloc, table, asked, walks, question),
+        QuestionKind::Isolate => reaching(alloc, table, asked, walks, question),
+        QuestionKind::NoLoop => filtered_loops(alloc, table, asked, question),
     }
 }
 
@@ -116,8 +107,7 @@ fn not_reaching(
 {
     let those = reaching(alloc, table, asked, walks, question)?;
     let filter = filter_set(table, &question.filter)?;
-    let set = without(table, filter, those)?;
-    Ok(set)
+    without(table, filter, those)
 }
 
 // The headers of the filter that reach the place.
@@ -160,8 +150,7 @@ fn ending(table: &mut Diagrams, ends: &[OutcomeSet], question: &Question) -> Res
 {
     let there = headers_to(table, ends, question.to)?;
     let filter = filter_set(table, &question.filter)?;
-    let set = both(table, filter, there)?;
-    Ok(set)
+    both(table, filter, there)
 }
 
 // The headers of the filter that loop. Only those that may enter a loop are walked.
@@ -180,8 +169,7 @@ fn filtered_loops(
     };
     let filter = filter_set(table, &question.filter)?;
     let domain = both(table, filter, bound)?;
-    let set = looping(alloc, table, asked.net, question.from, domain, asked.ttl)?;
-    Ok(set)
+    looping(alloc, table, asked.net, question.from, domain, asked.ttl)
 }
 
 /// The headers of all filters.
@@ -206,8 +194,7 @@ fn with_filter(table: &mut Diagrams, question: &Question, set: u32) -> Result<u3
     ensures kept { Keeps table.old table.new }
 {
     let filter = filter_set(table, &question.filter)?;
-    let all = either(table, set, filter)?;
-    Ok(all)
+    either(table, set, filter)
 }
 
 // The headers of a filter.
@@ -215,6 +202,5 @@ fn filter_set(table: &mut Diagrams, filter: &Cube) -> Result<u32, NoMemory>
     ensures set { IfOk result (λ r. IsSet table.new r (λ h. IsIn filter.now (number h))) }
     ensures kept { Keeps table.old table.new }
 {
-    let set = table.add_entry(&[*filter], 1)?;
-    Ok(set)
+    table.add_entry(&[*filter], 1)
 }

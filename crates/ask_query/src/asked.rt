@@ -34,8 +34,7 @@ pub fn answer<G: Gate + Sync, R: Threads + Wait + Sync>(
     ensures { IfOk result (λ answers. AreAnswers (record { network = network.now; links = links.now }) ttl questions.now answers.items) }
 {
     let world = WorldRef { network, links };
-    let answers = answer_world(by, alloc, world, questions, ttl)?;
-    Ok(answers)
+    answer_world(by, alloc, world, questions, ttl)
 }
 
 fn answer_world<G: Gate + Sync, R: Threads + Wait + Sync>(
@@ -49,8 +48,7 @@ fn answer_world<G: Gate + Sync, R: Threads + Wait + Sync>(
     ensures { IfOk result (λ answers. AreAnswers (world_of world.entry) ttl questions.now answers.items) }
 {
     let formed = formed_by_workers(by, alloc, world)?;
-    let answers = answers_of(by, alloc, formed, questions, ttl)?;
-    Ok(answers)
+    answers_of(by, alloc, formed, questions, ttl)
 }
 
 // The answers on a compiled network.
@@ -79,6 +77,5 @@ fn answers_of<G: Gate + Sync, R: Threads + Wait + Sync>(
         lists: &ways.lists,
         scope,
     };
-    let answers = answers_by(by, alloc, diagrams, &net, questions, ttl)?;
-    Ok(answers)
+    answers_by(by, alloc, diagrams, &net, questions, ttl)
 }

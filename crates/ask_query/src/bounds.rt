@@ -226,8 +226,7 @@ fn with_way(
             };
             let before = before_stamp(alloc, table, there, &stamp)?;
             let more = both(table, way.headers, before)?;
-            let all = either(table, set, more)?;
-            Ok(all)
+            either(table, set, more)
         }
         Step::Drop => Ok(set),
         Step::Local { place: _ } => Ok(set),

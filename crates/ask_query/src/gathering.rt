@@ -31,8 +31,7 @@ pub(crate) fn answers_of_leaves<K: Asking>(
     for leaf in leaves.cursor() {
         put_slot(&mut known, asked.slots, &leaf.value);
     }
-    let answers = in_order(alloc, asked.questions, &known)?;
-    Ok(answers)
+    in_order(alloc, asked.questions, &known)
 }
 
 // The answers of a slot are put to their questions.

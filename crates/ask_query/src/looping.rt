@@ -74,8 +74,7 @@ pub(crate) fn looping(
         return Ok(domain);
     }
     let levels = levels_of(alloc, table, net, place, domain, ttl)?;
-    let set = looping_in(alloc, table, net, &levels, ttl)?;
-    Ok(set)
+    looping_in(alloc, table, net, &levels, ttl)
 }
 
 // The levels of the domain, from that of no move on, as many as the TTL has.
@@ -93,8 +92,8 @@ fn levels_of(
     ensures count { IfOk result (λ r. length r.items ≡ ttl) }
     ensures kept { Keeps table.old table.new }
 {
-    let mut levels = Vec::new(alloc);
     let mut groups = first_level(alloc, table, place, domain)?;
+    let mut levels = Vec::new(alloc);
     let mut mark = 0;
     for n in 0..ttl {
         let steps = next_level(alloc, table, net, &groups)?;
@@ -102,8 +101,7 @@ fn levels_of(
         groups = steps;
         mark = later_mark(mark, n);
         if same_groups(&levels[usize::from(mark)].groups, &groups) {
-            let all = with_rounds(alloc, levels, n + 1 - mark, ttl)?;
-            return Ok(all);
+            return with_rounds(alloc, levels, n + 1 - mark, ttl);
         }
     }
     Ok(levels)
@@ -196,10 +194,7 @@ fn with_group(table: &mut Diagrams, group: Way, set: u32) -> Result<u32, NoMemor
     ensures kept { Keeps table.old table.new }
 {
     match group.step {
-        Step::Go { place: _, stamp: _ } => {
-            let all = either(table, set, group.headers)?;
-            Ok(all)
-        }
+        Step::Go { place: _, stamp: _ } => either(table, set, group.headers),
         Step::Drop => Ok(set),
         Step::Local { place: _ } => Ok(set),
         Step::Lost => Ok(set),
@@ -257,8 +252,7 @@ fn with_returning(
                 headers: rest,
             };
             let back = returning_by(alloc, table, net, arrivals, room)?;
-            let all = either(table, search.found, back)?;
-            Ok(all)
+            either(table, search.found, back)
         }
         Step::Drop => Ok(search.found),
         Step::Local { place: _ } => Ok(search.found),
@@ -287,8 +281,7 @@ fn returning_by(
     let arriving = arriving(table, &arrivals.stamp, arrivals.headers)?;
     let back = returning(alloc, table, net, arrivals.place, arriving, room)?;
     let before = before_stamp(alloc, table, back, &arrivals.stamp)?;
-    let set = both(table, arrivals.headers, before)?;
-    Ok(set)
+    both(table, arrivals.headers, before)
 }
 
 // Headers among which are those that the stamp makes of these.
@@ -302,8 +295,7 @@ fn arriving(table: &mut Diagrams, stamp: &Stamp, headers: u32) -> Result<u32, No
         return Ok(headers);
     }
     let cube = stamp.forth(&Cube::all());
-    let set = table.add_entry(&[cube], 1)?;
-    Ok(set)
+    table.add_entry(&[cube], 1)
 }
 
 // Whether the stamp replaces nothing.
@@ -379,6 +371,5 @@ fn with_step(table: &mut Diagrams, way: Way, step: &Step, set: u32) -> Result<u3
     if !same_step(&way.step, step) {
         return Ok(set);
     }
-    let all = either(table, set, way.headers)?;
-    Ok(all)
+    either(table, set, way.headers)
 }

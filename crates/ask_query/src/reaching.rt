@@ -25,8 +25,7 @@ pub(crate) fn headers_to(
     let Some(place) = to else {
         return Ok(table.nothing());
     };
-    let set = headers_at(table, ends, place)?;
-    Ok(set)
+    headers_at(table, ends, place)
 }
 
 // The headers that have an outcome at the place.
@@ -52,8 +51,7 @@ fn with_end(table: &mut Diagrams, end: OutcomeSet, place: Place, set: u32) -> Re
     if !is_at(&end.outcome, place) {
         return Ok(set);
     }
-    let all = either(table, set, end.headers)?;
-    Ok(all)
+    either(table, set, end.headers)
 }
 
 // Whether a packet with the outcome is taken by the device at the place, or leaves the network there.

@@ -34,8 +34,7 @@ pub fn read_questions(
 {
     let devices = DeviceIndex::of(alloc, network)?;
     let lines = lines(alloc, bytes)?;
-    let questions = read_lines(alloc, &devices, bytes, &lines)?;
-    Ok(questions)
+    read_lines(alloc, &devices, bytes, &lines)
 }
 
 // The questions of the lines.
@@ -49,11 +48,23 @@ fn read_lines(
 {
     let mut questions = Vec::new(alloc);
     for line in lines {
-        let words = texts(alloc, bytes, line.words.as_slice())?;
-        let question = read_line(alloc, devices, line.number, &words)?;
+        let question = question_in(alloc, devices, bytes, line)?;
         add(&mut questions, question)?;
     }
     Ok(questions)
+}
+
+// The question of the line, if it has one.
+fn question_in(
+    alloc: Global,
+    devices: &DeviceIndex,
+    bytes: &[u8],
+    line: &Line,
+) -> Result<Option<Question>, QuestionFail>
+    ensures { Gives (option_map said) result (question_at devices.now line.now.number (map (piece bytes.now) line.now.words)) }
+{
+    let words = texts(alloc, bytes, line.words.as_slice())?;
+    read_line(alloc, devices, line.number, &words)
 }
 
 // Adds the question, if there is one.

@@ -1,11 +1,12 @@
 //! The text of answers.
 
 ghost use Rattle.std.specs.Prelude.{◌≡◌, ◌+◌, ◌++◌, IfOk, OnOk, length};
+ghost use Rattle.report_text.specs.FieldText.{header_text};
 ghost use Rattle.ask_query.specs.AnswerText.{answer_text, answers_from, answers_text, failed_count, failed_text, fails, fails_text};
 
 use hdr_bits::Header;
 use net_types::{Answer, NoMemory};
-use report_text::{append, decimal_bytes, header_bytes};
+use report_text::{append, append_number, header_bytes};
 use std::alloc::Global;
 
 /// Answers as text: in their order, numbered from 1, a line `K holds` or `K fails HEADER`, and last `failed N` with the number
@@ -16,7 +17,7 @@ pub fn answers_bytes(alloc: Global, answers: &[Answer]) -> Result<Vec<u8>, NoMem
 {
     let mut text = Vec::new(alloc);
     append_answers(alloc, &mut text, answers)?;
-    append_failed(alloc, &mut text, answers)?;
+    append_failed(&mut text, answers)?;
     Ok(text)
 }
 
@@ -54,30 +55,34 @@ fn append_answer(
 ) -> Result<(), NoMemory>
     ensures { OnOk result (out.new.items ≡ out.old.items ++ answer_text number answer.now) }
 {
-    let number = decimal_bytes(alloc, number)?;
-    append(out, &number)?;
+    append_number(out, number)?;
     match answer {
         Answer::Holds => append(out, b" holds\n"),
-        Answer::Fails { header } => append_header(alloc, out, header),
+        Answer::Fails { header } => append_fails(alloc, out, header),
     }
 }
 
-fn append_header(alloc: Global, out: &mut Vec<u8>, header: &Header) -> Result<(), NoMemory>
+fn append_fails(alloc: Global, out: &mut Vec<u8>, header: &Header) -> Result<(), NoMemory>
     ensures { OnOk result (out.new.items ≡ out.old.items ++ fails_text header.now) }
 {
-    let header = header_bytes(alloc, header)?;
     append(out, b" fails ")?;
-    append(out, &header)?;
+    append_header(alloc, out, header)?;
     append(out, b"\n")
+}
+
+fn append_header(alloc: Global, out: &mut Vec<u8>, header: &Header) -> Result<(), NoMemory>
+    ensures { OnOk result (out.new.items ≡ out.old.items ++ header_text header.now) }
+{
+    let header = header_bytes(alloc, header)?;
+    append(out, &header)
 }
 
 // The last line.
 #[tactic(auto, unfolding(crate::specs::AnswerText::failed_text))]
-fn append_failed(alloc: Global, out: &mut Vec<u8>, answers: &[Answer]) -> Result<(), NoMemory>
+fn append_failed(out: &mut Vec<u8>, answers: &[Answer]) -> Result<(), NoMemory>
     ensures { OnOk result (out.new.items ≡ out.old.items ++ failed_text answers.now) }
 {
-    let count = decimal_bytes(alloc, failed_count(answers) as u64)?;
     append(out, b"failed ")?;
-    append(out, &count)?;
+    append_number(out, failed_count(answers) as u64)?;
     append(out, b"\n")
 }

@@ -51,8 +51,7 @@ pub fn answers_by<G: Gate + Sync, R: Threads + Wait + Sync>(
         questions,
         slots: &slots,
     };
-    let answers = answers_by_slots(by, alloc, table, &asked)?;
-    Ok(answers)
+    answers_by_slots(by, alloc, table, &asked)
 }
 
 // What workers share is named for it by a type.
@@ -108,6 +107,5 @@ fn answers_shared<K: Asking + Base + Send + Sync, G: Gate + Sync, R: Threads + W
         asking: PhantomData,
     };
     let leaves = run(by, alloc, roots.as_slice(), splitter)?;
-    let answers = answers_of_leaves(alloc, asked, &leaves)?;
-    Ok(answers)
+    answers_of_leaves(alloc, asked, &leaves)
 }

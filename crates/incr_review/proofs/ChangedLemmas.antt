@@ -1,5 +1,5 @@
 -- The headers whose moves an edit may change, and that all others walk as before.
-use Rattle.std.proofs.Common.{ℕ, zero, suc, ◌≡◌, ◌<◌, ◌+◌, ◌++◌, ◌↔◌, inl, inr, ◌==◌, true, false, List, [], ◌∷◌, Option, Some, None, take, length, get_or, slice_get, refl, ap, sym, ◌∙◌, subst, arith, eq-eqb, Bor}
+use Rattle.std.proofs.Common.{ℕ, zero, suc, ◌≡◌, ◌<◌, ◌+◌, ◌++◌, ◌↔◌, inl, inr, ◌==◌, true, false, List, [], ◌∷◌, Option, Some, None, take, length, get_or, slice_get, Result, Ok, Err, IfOk, refl, ap, sym, ◌∙◌, subst, arith, eq-eqb, Bor}
 use Rattle.std.specs.Option.{option_copied}
 use Rattle.std.specs.Prelude.{Contains, IfSome, option_and_then}
 use Rattle.std.specs.List.{list_any}
@@ -36,6 +36,11 @@ use Rattle.set_walk.proofs.SetLemmas.{kept_set}
 use Rattle.incr_review.specs.declared.changed.WaysChange.{WaysChange}
 use Rattle.incr_review.specs.Changed.{AgreeAtNumbers, AgreeOutside, HasMoveIn, HasOther, HaveOthers, IsKnownNumber, IsWider, after_at, before_at}
 use Rattle.incr_review.specs.Live.{AreWaysGiven, PassesOn}
+
+-- what is so by two things that are said of a value
+pub ok_both : {T E : Type 0} (r : Result T E) (P Q R : T → Type 0) → ((x : T) → P x → Q x → R x) → IfOk r P → IfOk r Q → IfOk r R
+ok_both (Ok x) P Q R f p q = f x p q
+ok_both (Err e) P Q R f p q = tt
 
 -- ---- sets that grow
 pub wider_same : (f : Functions) (set : ℕ) → IsWider f set f set

@@ -15,7 +15,6 @@ use Rattle.incr_review.specs.declared.edits.EditFail.{EditFail}
 use Rattle.incr_review.specs.declared.edits.EditFail.TheVariants as fail
 use Rattle.incr_review.specs.declared.edits.EditKind.{EditKind}
 use Rattle.incr_review.specs.declared.edits.EditKind.TheVariants.{UnknownDevice, UnknownList, SequenceTaken, NoSuchEntry, NoSuchRoute}
-use Rattle.incr_review.specs.declared.rules.Rules.{Rules}
 use Rattle.incr_review.specs.Same.{same_route}
 
 abbrev pub map_ok : {X Y : Type 0} → (X → Y) → Result X EditKind → Result Y EditKind
@@ -57,6 +56,11 @@ list_edited change a = map_ok (λ entries. record a { entries = entries }) (chan
 
 abbrev pub lists_edited : List ℕ → (List Entry → Result (List Entry) EditKind) → List AccessList → Result (List AccessList) EditKind
 lists_edited name change lists = change_first (is_list name) UnknownList (list_edited change) lists
+
+-- what an edit may change of a device
+pub record Rules : Type 0 where
+  pub routes : List Route
+  pub lists : List AccessList
 
 abbrev pub with_lists : List Route → Result (List AccessList) EditKind → Result Rules EditKind
 with_lists routes lists = map_ok (λ ls. record { routes = routes; lists = ls }) lists

@@ -5,9 +5,12 @@ use denote.Ref.{Bor}
 use Rattle.hdr_bits.specs.Lists.{Extends}
 use Rattle.cube_diagram.specs.Combined.{if_both}
 use Rattle.cube_diagram.specs.Functions.{Functions, count_of, value_at}
+use Rattle.cube_diagram.specs.RowCounts.{IsRowCount}
+use Rattle.net_types.specs.declared.network.Row.{Row}
 use Rattle.net_types.specs.Report.{labels_if_other}
 use Rattle.pair_rows.specs.declared.function.PairFunction.{PairFunction}
-use Rattle.pair_rows.specs.Pairs.{AreDistinct, Pair}
+use Rattle.pair_rows.specs.Functions.{IsFunctionOf}
+use Rattle.pair_rows.specs.Pairs.{AreDistinct, AreRowsWithPairs, Pair}
 use Rattle.incr_review.specs.declared.regions.Region.{Region}
 
 abbrev pub AreBelow : Functions → List Region → Type 0
@@ -40,6 +43,18 @@ pub record ArePairsOf (fs : Functions) (slot : ℕ) (regions : List Region) (giv
   pub number : (h n : ℕ) → h < 2 ^ 112 → value_at given.table given.function h ≡ Some n → HasPair fs slot regions h (slice_get given.pairs n) × IsSome (slice_get given.pairs n)
   pub none : (h : ℕ) (r : Region) → h < 2 ^ 112 → value_at given.table given.function h ≡ None → Contains regions r → r.slot ≡ slot → IsSome (value_at fs r.headers h) → pair_of r ≡ None
   pub distinct : AreDistinct given.pairs
+
+-- the rows of the pairs of these regions at the ingress of this position
+pub record AreRowsAt (fs : Functions) (slot : ℕ) (regions : List Region) (rows : List Row) : Type 0 where
+  pub given : PairFunction
+  pub pairs : ArePairsOf fs slot regions given
+  pub right : (g : ℕ → Option Pair) → IsFunctionOf g given → AreRowsWithPairs g rows
+
+-- so many rows they have
+pub record IsCountAt (fs : Functions) (slot : ℕ) (regions : List Region) (count : ℕ) : Type 0 where
+  pub given : PairFunction
+  pub pairs : ArePairsOf fs slot regions given
+  pub right : IsRowCount (value_at given.table given.function) count
 
 -- the headers of the set that have no number have this one
 abbrev pub IsNumbered : Functions → ℕ → ℕ → ℕ → Functions → ℕ → Type 0

@@ -145,10 +145,7 @@ fn with_apart(
 {
     match (before, after) {
         (None, None) => Ok(set),
-        (Some(before), Some(after)) => {
-            let all = with_difference(table, &before.ways, &after.ways, set)?;
-            Ok(all)
-        }
+        (Some(before), Some(after)) => { with_difference(table, &before.ways, &after.ways, set) }
         _ => Ok(table.everything()),
     }
 }
@@ -169,8 +166,7 @@ fn with_difference(
     ensures kept { Keeps table.old table.new }
 {
     let lost = with_missing(table, before, after, set)?;
-    let all = with_missing(table, after, before, lost)?;
-    Ok(all)
+    with_missing(table, after, before, lost)
 }
 
 // The set, with the headers of each of the ways that don't make its step by the others.
@@ -213,12 +209,10 @@ fn with_alone(
     ensures kept { Keeps table.old table.new }
 {
     let Some(other) = other_of(others, &way.step, near) else {
-        let all = either(table, set, way.headers)?;
-        return Ok(all);
+        return either(table, set, way.headers);
     };
     let alone = without(table, way.headers, other.headers)?;
-    let all = either(table, set, alone)?;
-    Ok(all)
+    either(table, set, alone)
 }
 
 // One of the ways that has this step.

@@ -5,8 +5,8 @@ ghost use Rattle.net_types.specs.declared.network.NetDevice.{NetDevice};
 ghost use Rattle.incr_review.specs.Edited.{IsFailOf, device_of, device_edited, edited, is_named};
 
 use crate::edits::{Edit, EditFail, EditKind};
-use crate::rules::edited_rules;
-use net_types::{Config, Duplicate, List, NetDevice, Network};
+use crate::rules::edit_rules;
+use net_types::{Duplicate, List, NetDevice, Network};
 use std::alloc::Global;
 use std::mem;
 
@@ -74,17 +74,7 @@ fn edited_at(alloc: Global, device: &NetDevice, edit: &Edit) -> Result<NetDevice
     ensures ok { IfOk result (λ r. device_edited edit.now device.now ≡ Ok r) }
     ensures fail { IfErr result (IsFailOf (device_edited edit.now device.now)) }
 {
-    let rules = edited_rules(alloc, &device.config, edit)?;
-    let config = Config {
-        hostname: device.config.hostname.copy(alloc)?,
-        interfaces: device.config.interfaces.copy_items(alloc)?,
-        routes: rules.routes,
-        lists: rules.lists,
-        nat: device.config.nat.copy_items(alloc)?,
-    };
-    Ok(NetDevice {
-        name: device.name,
-        config,
-        numbers: device.numbers.copy_items(alloc)?,
-    })
+    let mut copy = device.copy(alloc)?;
+    edit_rules(alloc, &mut copy.config, edit)?;
+    Ok(copy)
 }

@@ -1,15 +1,17 @@
 //! The access lists of a device after an edit of one of their entries.
 
-ghost use Rattle.std.specs.Prelude.{◌≡◌, nat_lt, position, IfOk, IfErr};
+ghost use Rattle.std.specs.Prelude.{◌≡◌, nat_lt, position, IfErr, OnOk};
 ghost use Rattle.std.specs.List.{list_any};
 ghost use Rattle.incr_review.specs.declared.edits.EditKind.TheVariants as kind;
-ghost use Rattle.incr_review.specs.Edited.{IsFailOf, has_sequence, is_list, entry_added, drop_first, with_entry, list_edited, lists_edited};
+ghost use Rattle.incr_review.specs.Edited.{IsFailOf, has_sequence, is_list, entry_added, drop_first, with_entry, lists_edited};
 ghost use Rattle.incr_review.specs.Entries.{entries_by};
 
 use crate::edits::{EditFail, EditKind};
+use crate::lists::remove_at;
 use crate::same::same_text;
 use net_types::{AccessList, Duplicate, Entry, List, NoMemory, Text};
 use std::alloc::Global;
+use std::mem;
 
 /// What is done to the entries of an access list.
 #[derive(Clone, Copy)]
@@ -18,25 +20,25 @@ pub(crate) enum EntryEdit<'a> {
     Drop { sequence: u32 },
 }
 
-/// The access lists, the entries of the first one of this name edited so.
-pub(crate) fn edited_lists(
+/// Edits the entries of the first of the access lists that has this name.
+pub(crate) fn edit_lists(
     alloc: Global,
-    lists: &List<AccessList>,
+    lists: &mut List<AccessList>,
     name: &Text,
     change: EntryEdit,
-) -> Result<List<AccessList>, EditFail>
-    ensures ok { IfOk result (λ r. lists_edited name.now (entries_by change.entry) lists.now ≡ Ok r) }
-    ensures fail { IfErr result (IsFailOf (lists_edited name.now (entries_by change.entry) lists.now)) }
+) -> Result<(), EditFail>
+    ensures ok { OnOk result (lists_edited name.now (entries_by change.entry) lists.old ≡ Ok lists.new) }
+    ensures fail { IfErr result (IsFailOf (lists_edited name.now (entries_by change.entry) lists.old)) }
 {
     let Some(position) = list_position(lists.as_slice(), name) else {
         return Err(EditFail::Refused {
             kind: EditKind::UnknownList,
         });
     };
-    let edited = edited_list(alloc, &lists.as_slice()[position], change)?;
-    let mut all = lists.copy_items(alloc)?.into_vec();
-    all[position] = edited;
-    Ok(List::new(all))
+    let mut all = mem::replace(lists, List::empty(alloc)).into_vec();
+    let edited = edit_entries(alloc, &mut all[position].entries, change);
+    *lists = List::new(all);
+    edited
 }
 
 fn list_position(lists: &[AccessList], name: &Text) -> Option<usize>
@@ -45,62 +47,43 @@ fn list_position(lists: &[AccessList], name: &Text) -> Option<usize>
     lists.iter().position(|list| same_text(&list.name, name))
 }
 
-fn edited_list(alloc: Global, list: &AccessList, change: EntryEdit) -> Result<AccessList, EditFail>
-    ensures ok { IfOk result (λ r. list_edited (entries_by change.entry) list.now ≡ Ok r) }
-    ensures fail { IfErr result (IsFailOf (list_edited (entries_by change.entry) list.now)) }
-{
-    let entries = edited_entries(alloc, &list.entries, change)?;
-    Ok(AccessList {
-        name: list.name.copy(alloc)?,
-        extended: list.extended,
-        entries,
-    })
-}
-
-fn edited_entries(
-    alloc: Global,
-    entries: &List<Entry>,
-    change: EntryEdit,
-) -> Result<List<Entry>, EditFail>
-    ensures ok { IfOk result (λ r. entries_by change.entry entries.now ≡ Ok r) }
-    ensures fail { IfErr result (IsFailOf (entries_by change.entry entries.now)) }
+fn edit_entries(alloc: Global, entries: &mut List<Entry>, change: EntryEdit) -> Result<(), EditFail>
+    ensures ok { OnOk result (entries_by change.entry entries.old ≡ Ok entries.new) }
+    ensures fail { IfErr result (IsFailOf (entries_by change.entry entries.old)) }
 {
     match change {
-        EntryEdit::Add { entry } => added(alloc, entries, entry),
-        EntryEdit::Drop { sequence } => dropped(alloc, entries, sequence),
+        EntryEdit::Add { entry } => add_entry(alloc, entries, entry),
+        EntryEdit::Drop { sequence } => drop_entry(alloc, entries, sequence),
     }
 }
 
-// With the entry before the first one of a greater sequence.
-fn added(alloc: Global, entries: &List<Entry>, entry: &Entry) -> Result<List<Entry>, EditFail>
-    ensures ok { IfOk result (λ r. entry_added entry.now entries.now ≡ Ok r) }
-    ensures fail { IfErr result (IsFailOf (entry_added entry.now entries.now)) }
+// Puts the entry before the first one of a greater sequence.
+fn add_entry(alloc: Global, entries: &mut List<Entry>, entry: &Entry) -> Result<(), EditFail>
+    ensures ok { OnOk result (entry_added entry.now entries.old ≡ Ok entries.new) }
+    ensures fail { IfErr result (IsFailOf (entry_added entry.now entries.old)) }
 {
     if is_taken(entries.as_slice(), entry.sequence) {
         return Err(EditFail::Refused {
             kind: EditKind::SequenceTaken,
         });
     }
-    let copies = entries.copy_items(alloc)?;
-    let all = with_entry(copies.into_vec(), entry.copy(alloc)?)?;
-    Ok(List::new(all))
+    let copy = entry.copy(alloc)?;
+    let mut all = mem::replace(entries, List::empty(alloc)).into_vec();
+    let put = put_entry(&mut all, copy);
+    *entries = List::new(all);
+    put?;
+    Ok(())
 }
 
-// With the entry in its place, where none has its sequence.
-fn with_entry(entries: Vec<Entry>, entry: Entry) -> Result<Vec<Entry>, NoMemory>
-    ensures { IfOk result (λ r. r.items ≡ with_entry entry entries.items) }
+// Puts the entry in its place, where none has its sequence.
+fn put_entry(entries: &mut Vec<Entry>, entry: Entry) -> Result<(), NoMemory>
+    ensures { OnOk result (entries.new.items ≡ with_entry entry entries.old.items) }
 {
-    let mut all = entries;
-    match greater_position(all.as_slice(), entry.sequence) {
-        None => {
-            all.push(entry)?;
-            Ok(all)
-        }
-        Some(position) => {
-            all.insert(position, entry)?;
-            Ok(all)
-        }
+    match greater_position(entries.as_slice(), entry.sequence) {
+        None => entries.push(entry)?,
+        Some(position) => entries.insert(position, entry)?,
     }
+    Ok(())
 }
 
 fn is_taken(entries: &[Entry], sequence: u32) -> bool
@@ -115,19 +98,18 @@ fn greater_position(entries: &[Entry], sequence: u32) -> Option<usize>
     entries.iter().position(|entry| sequence < entry.sequence)
 }
 
-// Without the entry of this sequence.
-fn dropped(alloc: Global, entries: &List<Entry>, sequence: u32) -> Result<List<Entry>, EditFail>
-    ensures ok { IfOk result (λ r. drop_first (has_sequence sequence) kind.NoSuchEntry entries.now ≡ Ok r) }
-    ensures fail { IfErr result (IsFailOf (drop_first (has_sequence sequence) kind.NoSuchEntry entries.now)) }
+// Takes the entry of this sequence out.
+fn drop_entry(alloc: Global, entries: &mut List<Entry>, sequence: u32) -> Result<(), EditFail>
+    ensures ok { OnOk result (drop_first (has_sequence sequence) kind.NoSuchEntry entries.old ≡ Ok entries.new) }
+    ensures fail { IfErr result (IsFailOf (drop_first (has_sequence sequence) kind.NoSuchEntry entries.old)) }
 {
     let Some(position) = sequence_position(entries.as_slice(), sequence) else {
         return Err(EditFail::Refused {
             kind: EditKind::NoSuchEntry,
         });
     };
-    let mut all = entries.copy_items(alloc)?.into_vec();
-    let _ = all.remove(position);
-    Ok(List::new(all))
+    remove_at(alloc, entries, position);
+    Ok(())
 }
 
 fn sequence_position(entries: &[Entry], sequence: u32) -> Option<usize>

@@ -54,8 +54,7 @@ pub(crate) fn open_regions(
         lists: &ways.lists,
         scope: live.scope,
     };
-    let regions = opened(alloc, &mut live.tables.diagrams, &net, ttl)?;
-    Ok(regions)
+    opened(alloc, &mut live.tables.diagrams, &net, ttl)
 }
 
 /// What is known of an edit that was made.
@@ -104,6 +103,5 @@ pub(crate) fn walk_live(
         plain: change.plain,
         ttl: change.ttl,
     };
-    let touched = walk_again(alloc, &mut live.tables.diagrams, again, regions)?;
-    Ok(touched)
+    walk_again(alloc, &mut live.tables.diagrams, again, regions)
 }

@@ -46,14 +46,12 @@ pub(crate) fn fact_numbers(
         return Ok(no_numbers(alloc, table));
     };
     if facts.len() == 1 {
-        let one = one_fact(alloc, table, *first)?;
-        return Ok(one);
+        return one_fact(alloc, table, *first);
     }
     let (left, right) = facts.split_at(facts.len() / 2);
     let a = fact_numbers(alloc, table, left)?;
     let b = fact_numbers(alloc, table, right)?;
-    let both = both_told(alloc, table, &a, &b)?;
-    Ok(both)
+    both_told(alloc, table, &a, &b)
 }
 
 // Those of no fact.
@@ -71,8 +69,8 @@ fn one_fact(alloc: Global, table: &mut Diagrams, fact: FactSet) -> Result<FactNu
     ensures numbers { IfOk result (AreFactNumbers table.new (fact ∷ [])) }
     ensures kept { Keeps table.old table.new }
 {
-    let lists = one_list(alloc, fact.fact)?;
     let function = on_set(table, fact.headers, 0)?;
+    let lists = one_list(alloc, fact.fact)?;
     Ok(FactNumbers { function, lists })
 }
 
@@ -145,10 +143,7 @@ fn add_facts(
 {
     match number {
         None => Ok(()),
-        Some(number) => {
-            add_facts_at(lists, number as usize, facts)?;
-            Ok(())
-        }
+        Some(number) => add_facts_at(lists, number as usize, facts),
     }
 }
 

@@ -1,13 +1,15 @@
 //! The headers of a set, in parts by what walks tell of them.
 
-ghost use Rattle.std.specs.Prelude.{◌≡◌, ◌<◌, IfOk, OnOk};
+ghost use Rattle.std.specs.Prelude.{◌≡◌, ◌<◌, List, IfOk, OnOk};
 ghost use Rattle.std.specs.List.{AllZip};
 ghost use Rattle.cube_diagram.specs.Functions.{Keeps, count_of};
+ghost use Rattle.incr_review.specs.declared.facts.FactSet.{FactSet};
+ghost use Rattle.incr_review.specs.FactNumbers.{AreFactNumbers};
 ghost use Rattle.incr_review.specs.Facts.{AreFactsBelow, StandOnce};
 ghost use Rattle.incr_review.specs.Parts.{AddsPart, AreParts, IsPartBy};
 
 use crate::facts::{FactSet, WalkFact};
-use crate::numbers::{FactList, add_facts_at, fact_numbers};
+use crate::numbers::{FactList, FactNumbers, add_facts_at, fact_numbers};
 use cube_diagram::{Diagrams, ValueSet};
 use net_types::NoMemory;
 use set_walk::sets::without;
@@ -36,6 +38,21 @@ pub(crate) fn parts_by(
     ensures kept { Keeps table.old table.new }
 {
     let numbers = fact_numbers(alloc, table, facts)?;
+    parts_of(alloc, table, domain, &numbers)
+}
+
+// The parts of the set by the numbers of facts.
+fn parts_of(
+    alloc: Global,
+    table: &mut Diagrams,
+    domain: u32,
+    numbers: &FactNumbers,
+) -> Result<Vec<Part>, NoMemory>
+    requires domain { domain < count_of table.old }
+    requires numbers { numbers.now.function < count_of table.old }
+    ensures parts { IfOk result (λ r. (facts : List FactSet) → AreFactsBelow table.old facts → AreFactNumbers table.old facts numbers.now → AreParts table.new domain facts r.items) }
+    ensures kept { Keeps table.old table.new }
+{
     let sets = table.sets_by_value(alloc, numbers.function, domain)?;
     let rest = without(table, domain, numbers.function)?;
     let mut parts = numbered_parts(alloc, &numbers.lists, &sets)?;

@@ -1,11 +1,12 @@
 //! Regions: sets of headers at an ingress, with their labels in two networks and the devices that they visit.
 
 ghost use Rattle.std.specs.List.{list_any};
-ghost use Rattle.std.specs.Prelude.{◌≡◌, ◌<◌, ◌++◌, ◌==◌, IfOk, OnOk, length, map};
+ghost use Rattle.std.specs.Option.{option_copied};
+ghost use Rattle.std.specs.Prelude.{◌≡◌, ◌<◌, [], ◌∷◌, ◌++◌, ◌==◌, IfOk, OnOk, length, map};
 ghost use Rattle.cube_diagram.specs.Functions.{Keeps, count_of};
 ghost use Rattle.net_view.specs.Borrowed.{world_of};
 ghost use Rattle.incr_review.specs.Regions.{stays};
-ghost use Rattle.incr_review.specs.Again.{AddsRegions, IsWalkIn, as_region};
+ghost use Rattle.incr_review.specs.Again.{AddsRegions, IsWalkIn, as_region, old_or};
 
 use crate::walked::{WalkedPart, walked_parts};
 use cube_diagram::Diagrams;
@@ -94,8 +95,7 @@ pub(crate) fn add_regions(
 {
     let place = walk.ingress[walking.slot as usize];
     let parts = walked_parts(alloc, table, walk.net, place, walking.headers, walk.ttl)?;
-    add_parts(alloc, walking, parts, regions)?;
-    Ok(())
+    add_parts(alloc, walking, parts, regions)
 }
 
 // The parts as regions.
@@ -108,24 +108,37 @@ fn add_parts(
     ensures { OnOk result (regions.new.items ≡ regions.old.items ++ map (as_region walking.entry) parts.items) }
 {
     for part in parts {
-        let region = region_of(alloc, walking, part)?;
-        regions.push(region)?;
+        add_part(alloc, walking, part, regions)?;
     }
     Ok(())
 }
 
-fn region_of(alloc: Global, walking: Walking, part: WalkedPart) -> Result<Region, NoMemory>
-    ensures { IfOk result (λ r. r ≡ as_region walking.entry part) }
+// The part as a region.
+fn add_part(
+    alloc: Global,
+    walking: Walking,
+    part: WalkedPart,
+    regions: &mut Vec<Region>,
+) -> Result<(), NoMemory>
+    ensures { OnOk result (regions.new.items ≡ regions.old.items ++ as_region walking.entry part ∷ []) }
 {
-    let old = match walking.old {
-        None => part.label.copy(alloc)?,
-        Some(label) => label.copy(alloc)?,
-    };
-    Ok(Region {
+    let old = old_label(alloc, walking.old, &part.label)?;
+    regions.push(Region {
         slot: walking.slot,
         headers: part.headers,
         old,
         new: part.label,
         devices: part.devices,
-    })
+    })?;
+    Ok(())
+}
+
+// The old label, or this one where none is known.
+fn old_label(alloc: Global, old: Option<&Label>, new: &Label) -> Result<Label, NoMemory>
+    ensures { IfOk result (λ r. r ≡ old_or (option_copied old.entry) new.now) }
+{
+    match old {
+        None => new.copy(alloc),
+        Some(label) => label.copy(alloc),
+    }
 }

@@ -17,7 +17,6 @@ use std::marker::Model;
 ///
 /// Each header at each ingress is in exactly one region, and a region says what is so of each of its headers. That is so after
 /// every edit, refused ones included.
-#[derive(Drop)]
 pub struct Review<'a> {
     /// The old network, with the links of both.
     baseline: WorldRef<'a>,
@@ -28,6 +27,19 @@ pub struct Review<'a> {
     /// Whether it is known that no device translates.
     plain: bool,
     regions: Vec<Region>,
+}
+
+impl<'a> Drop for Review<'a> {
+    fn drop(self) {
+        let Review {
+            baseline: _,
+            edited: _,
+            ttl: _,
+            live: _,
+            plain: _,
+            regions: _,
+        } = self;
+    }
 }
 
 impl<'a> Model for Review<'a> {
@@ -144,8 +156,7 @@ impl<'a> Review<'a> {
         ensures { IfOk result (λ r. IsReport self.now.baseline.links.ingress self.now.baseline (edited_world self.now) self.now.ttl r.items) }
     {
         let ingress = self.baseline.links.ingress.as_slice();
-        let sections = sections_of(alloc, &self.live.tables.diagrams, &self.regions, ingress)?;
-        Ok(sections)
+        sections_of(alloc, &self.live.tables.diagrams, &self.regions, ingress)
     }
 
     /// How many rows the report has, in steps that go with its diagrams and not with its rows.
@@ -155,7 +166,6 @@ impl<'a> Review<'a> {
         ensures rows { IfOk result (HasRows self.now) }
     {
         let ingress = self.baseline.links.ingress.as_slice();
-        let count = rows_of_sections(alloc, &self.live.tables.diagrams, &self.regions, ingress)?;
-        Ok(count)
+        rows_of_sections(alloc, &self.live.tables.diagrams, &self.regions, ingress)
     }
 }

@@ -1,36 +1,26 @@
 //! The routes and the access lists of a device after an edit.
 
-ghost use Rattle.std.specs.Prelude.{◌≡◌, IfOk, IfErr};
+ghost use Rattle.std.specs.Prelude.{◌≡◌, IfErr, OnOk};
 ghost use Rattle.incr_review.specs.Edited.{IsFailOf, rules_edited};
 
 use crate::edits::{Edit, EditFail};
-use crate::entries::{EntryEdit, edited_lists};
-use crate::routes::{with_route, without_route};
-use net_types::{AccessList, Config, List, Route};
+use crate::entries::{EntryEdit, edit_lists};
+use crate::routes::{add_route, drop_route};
+use net_types::Config;
 use std::alloc::Global;
 
-/// What an edit may change of a device.
-#[derive(Drop)]
-pub struct Rules {
-    pub routes: List<Route>,
-    pub lists: List<AccessList>,
-}
-
-/// The routes and lists of the device with this configuration after the edit.
-pub(crate) fn edited_rules(alloc: Global, config: &Config, edit: &Edit) -> Result<Rules, EditFail>
-    ensures ok { IfOk result (λ r. rules_edited edit.now config.now ≡ Ok r) }
-    ensures fail { IfErr result (IsFailOf (rules_edited edit.now config.now)) }
+/// Edits the routes or the access lists of a device with this configuration.
+pub(crate) fn edit_rules(alloc: Global, config: &mut Config, edit: &Edit) -> Result<(), EditFail>
+    ensures ok { OnOk result (rules_edited edit.now config.old ≡ Ok (record { routes = config.new.routes; lists = config.new.lists })) }
+    ensures fail { IfErr result (IsFailOf (rules_edited edit.now config.old)) }
+    ensures others { config.new ≡ record config.old { routes = config.new.routes; lists = config.new.lists } }
 {
     match edit {
         Edit::AddEntry {
             device: _,
             list,
             entry,
-        } => {
-            let lists = edited_lists(alloc, &config.lists, list, EntryEdit::Add { entry })?;
-            let routes = config.routes.copy_items(alloc)?;
-            Ok(Rules { routes, lists })
-        }
+        } => edit_lists(alloc, &mut config.lists, list, EntryEdit::Add { entry }),
         Edit::DropEntry {
             device: _,
             list,
@@ -39,19 +29,9 @@ pub(crate) fn edited_rules(alloc: Global, config: &Config, edit: &Edit) -> Resul
             let change = EntryEdit::Drop {
                 sequence: *sequence,
             };
-            let lists = edited_lists(alloc, &config.lists, list, change)?;
-            let routes = config.routes.copy_items(alloc)?;
-            Ok(Rules { routes, lists })
+            edit_lists(alloc, &mut config.lists, list, change)
         }
-        Edit::AddRoute { device: _, route } => {
-            let routes = with_route(alloc, &config.routes, route)?;
-            let lists = config.lists.copy_items(alloc)?;
-            Ok(Rules { routes, lists })
-        }
-        Edit::DropRoute { device: _, route } => {
-            let routes = without_route(alloc, &config.routes, route)?;
-            let lists = config.lists.copy_items(alloc)?;
-            Ok(Rules { routes, lists })
-        }
+        Edit::AddRoute { device: _, route } => add_route(alloc, &mut config.routes, route),
+        Edit::DropRoute { device: _, route } => drop_route(alloc, &mut config.routes, route),
     }
 }

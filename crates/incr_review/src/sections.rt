@@ -1,12 +1,12 @@
 //! From the regions of a review to the report.
 
 ghost use Rattle.std.specs.Prelude.{◌≡◌, ◌<◌, ◌+◌, ℕ, [], IfOk, OnOk};
-ghost use Rattle.cube_diagram.specs.Functions.{Functions, Keeps, count_of};
+ghost use Rattle.cube_diagram.specs.Functions.{Functions, Keeps, count_of, value_at};
 ghost use Rattle.net_types.specs.World.{World};
 ghost use Rattle.net_types.specs.Report.{IsReport};
 ghost use Rattle.incr_review.specs.Regions.{AreReviewed};
 ghost use Rattle.incr_review.specs.Reviews.{HasRowsOf};
-ghost use Rattle.incr_review.specs.Sections.{AddsPair, AreBelow, AreDiffering, ArePairsOf, IsNumbered, regions_at};
+ghost use Rattle.incr_review.specs.Sections.{AddsPair, AreBelow, AreDiffering, ArePairsOf, AreRowsAt, IsCountAt, IsNumbered, regions_at};
 
 use crate::regions::Region;
 use crate::set_numbers::on_set;
@@ -29,8 +29,7 @@ pub(crate) fn sections_of(
     let differing = differing_regions(alloc, regions)?;
     let mut sections = Vec::with_capacity(alloc, ingress.len())?;
     for (slot, place) in ingress.iter().enumerate() {
-        let given = pairs_of(alloc, table, &differing, slot)?;
-        let rows = rows_of_function(alloc, &given)?;
+        let rows = rows_at(alloc, table, &differing, slot)?;
         sections.push(Section {
             place: *place,
             rows: List::new(rows),
@@ -53,8 +52,7 @@ pub(crate) fn rows_of_sections(
     let differing = differing_regions(alloc, regions)?;
     let mut count = 0;
     for slot in 0..ingress.len() {
-        let given = pairs_of(alloc, table, &differing, slot)?;
-        let rows = given.table.row_count(alloc, given.function)?;
+        let rows = row_count_at(alloc, table, &differing, slot)?;
         count = sum(count, rows)?;
     }
     Ok(count)
@@ -69,6 +67,34 @@ fn sum(count: u64, rows: u128) -> Result<u64, NoMemory>
         return Err(NoMemory);
     };
     Ok(sum)
+}
+
+// The canonical rows of one ingress.
+fn rows_at(
+    alloc: Global,
+    table: &Diagrams,
+    regions: &[&Region],
+    slot: usize,
+) -> Result<Vec<Row>, NoMemory>
+    requires { AreBelow table.now (regions_at regions.now) }
+    ensures { IfOk result (λ rows. AreRowsAt table.now slot (regions_at regions.now) rows.items) }
+{
+    let given = pairs_of(alloc, table, regions, slot)?;
+    rows_of_function(alloc, &given)
+}
+
+// How many these are.
+fn row_count_at(
+    alloc: Global,
+    table: &Diagrams,
+    regions: &[&Region],
+    slot: usize,
+) -> Result<u128, NoMemory>
+    requires { AreBelow table.now (regions_at regions.now) }
+    ensures { IfOk result (IsCountAt table.now slot (regions_at regions.now)) }
+{
+    let given = pairs_of(alloc, table, regions, slot)?;
+    given.table.row_count(alloc, given.function)
 }
 
 // Those of the regions whose two labels differ, which are few after most edits: so each ingress looks at these alone.
@@ -128,13 +154,23 @@ fn add_pair(
     if region.old.same(&region.new) {
         return Ok(());
     }
-    let mut known = IndexMap::new(alloc);
-    let set = given.table.copy_from(source, region.headers, &mut known)?;
+    let set = copied(alloc, source, region.headers, &mut given.table)?;
     let position = given.pairs.number_of(alloc, &region.old, &region.new)?;
     let number = short(position)?;
     let function = numbered(&mut given.table, given.function, set, number)?;
     given.function = function;
     Ok(())
+}
+
+// The set, as one of this table.
+fn copied(alloc: Global, source: &Diagrams, set: u32, table: &mut Diagrams) -> Result<u32, NoMemory>
+    requires { set < count_of source.now }
+    ensures below { IfOk result (λ r. r < count_of table.new) }
+    ensures exact { IfOk result (λ r. (h : ℕ) → value_at table.new r h ≡ value_at source.now set h) }
+    ensures kept { Keeps table.old table.new }
+{
+    let mut known = IndexMap::new(alloc);
+    table.copy_from(source, set, &mut known)
 }
 
 // The function that gives the headers of the set that have no number this one.
@@ -146,8 +182,7 @@ fn numbered(table: &mut Diagrams, function: u32, set: u32, number: u32) -> Resul
     ensures kept { Keeps table.old table.new }
 {
     let inside = on_set(table, set, number)?;
-    let whole = table.first_of(&[function, inside])?;
-    Ok(whole)
+    table.first_of(&[function, inside])
 }
 
 // The same number in 32 bits: where they don't hold it there is no memory for a table of so many.

@@ -17,8 +17,7 @@ pub(crate) fn on_set(table: &mut Diagrams, set: u32, number: u32) -> Result<u32,
     ensures kept { Keeps table.old table.new }
 {
     let everywhere = table.add_entry(&[all_headers()], number)?;
-    let inside = table.within(everywhere, set)?;
-    Ok(inside)
+    table.within(everywhere, set)
 }
 
 // The cube of all headers.

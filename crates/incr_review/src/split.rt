@@ -82,20 +82,8 @@ fn add_piece(
     if table.is_nothing(headers) {
         return Ok(());
     }
-    let piece = piece_of(alloc, region, headers)?;
+    let mut piece = region.copy(alloc)?;
+    piece.headers = headers;
     pieces.push(piece)?;
     Ok(())
-}
-
-fn piece_of(alloc: Global, region: &Region, headers: u32) -> Result<Region, NoMemory>
-    ensures { IfOk result (λ r. r ≡ with_headers region.now headers) }
-{
-    let copy = region.copy(alloc)?;
-    Ok(Region {
-        slot: copy.slot,
-        headers,
-        old: copy.old,
-        new: copy.new,
-        devices: copy.devices,
-    })
 }

@@ -47,8 +47,7 @@ pub(crate) fn walked_parts(
     let walked = labels_and_visitors(alloc, table, net, place, domain, ttl)?;
     let facts = facts_of(alloc, &walked)?;
     let parts = parts_by(alloc, table, domain, &facts)?;
-    let all = labelled(alloc, &parts)?;
-    Ok(all)
+    labelled(alloc, &parts)
 }
 
 // Each part with the label and the devices that its facts tell.

@@ -59,8 +59,7 @@ pub(crate) fn opened(
         ingress: net.world.links.ingress.as_slice(),
         ttl,
     };
-    let regions = all_regions(alloc, table, walk)?;
-    Ok(regions)
+    all_regions(alloc, table, walk)
 }
 
 // The regions of all headers at each ingress, by one walk from each.
@@ -143,9 +142,9 @@ fn regions_after(
     ensures kept { Keeps table.old table.new }
 {
     let changed = changed_set(table, again)?;
-    let split = split_leaving(alloc, table, regions, again.device.name, changed)?;
-    let more = walked_split(alloc, table, again, split)?;
-    Ok(more)
+    let mut split = split_leaving(alloc, table, regions, again.device.name, changed)?;
+    walk_inside(alloc, table, again, &mut split)?;
+    Ok(split.outside)
 }
 
 // Headers outside of which every header makes the same moves as before.
@@ -166,21 +165,20 @@ fn changed_set(table: &mut Diagrams, again: Again) -> Result<u32, NoMemory>
         before: again.before,
         after: again.net.places,
     };
-    let changed = changed_headers(table, change)?;
-    Ok(changed)
+    changed_headers(table, change)
 }
 
-// Those outside of the set as they are, and behind them those inside, walked again.
-fn walked_split(
+// Walks the headers inside of the set again, and puts their regions behind those outside.
+fn walk_inside(
     alloc: Global,
     table: &mut Diagrams,
     again: Again,
-    split: Split,
-) -> Result<Vec<Region>, NoMemory>
+    split: &mut Split,
+) -> Result<(), NoMemory>
     requires walk { IsWalkOf table.old again }
-    requires inside { ArePlaced again.net.now.world.links.now.ingress table.old split.inside.items }
-    requires disjoint { IsDisjoint table.old split.inside.items }
-    ensures added { IfOk result (λ r. AddsAgain (world_of again.entry.net.now.world) again.entry.ttl again.entry.net.now.world.links.now.ingress table.old (filter (leaves again.entry.device.now.name) split.inside.items) table.new split.outside.items r.items) }
+    requires inside { ArePlaced again.net.now.world.links.now.ingress table.old split.old.inside.items }
+    requires disjoint { IsDisjoint table.old split.old.inside.items }
+    ensures added { OnOk result (AddsAgain (world_of again.entry.net.now.world) again.entry.ttl again.entry.net.now.world.links.now.ingress table.old (filter (leaves again.entry.device.now.name) split.old.inside.items) table.new split.old.outside.items split.new.outside.items) }
     ensures kept { Keeps table.old table.new }
 {
     let groups = leaving_groups(alloc, table, &split.inside, again.device.name)?;
@@ -190,7 +188,5 @@ fn walked_split(
         ingress: net.world.links.ingress.as_slice(),
         ttl: again.ttl,
     };
-    let mut more = split.outside;
-    add_groups(alloc, table, walk, &groups, &mut more)?;
-    Ok(more)
+    add_groups(alloc, table, walk, &groups, &mut split.outside)
 }

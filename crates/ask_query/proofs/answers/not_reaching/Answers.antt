@@ -1,3 +1,4 @@
+use Rattle.std.proofs.lemmas.Result.{IfOk-weaker}
 use Rattle.hdr_bits.specs.HeaderBits.{number}
 use Rattle.hdr_bits.specs.CubeBits.{IsIn}
 use Rattle.indexmap.specs.IndexMap.{get}
@@ -12,13 +13,13 @@ pub returns-clause-set : goal.returns-clause-set
 returns-clause-set c =
     let q = c.args.question.now in
     let w = world_of c.args.asked.now.net.now.world in
-    record {
-      below = c.in_ok-set.ensures.set.below;
-      exact = without_those c.reaching.new.table c.filter_set.new.table c.without.new.table c.in_ok-those.those c.in_ok-filter.filter c.in_ok-set.set (ReachesNamed w c.args.asked.now.ttl q.from q.to) (λ h. IsIn q.filter (number h)) c.in_ok-filter.ensures.kept c.in_ok-those.ensures.set.below c.in_ok-those.ensures.set.exact c.in_ok-filter.ensures.set.exact c.in_ok-set.ensures.set.exact;
-    }
+    IfOk-weaker c.without.result _ _ (λ set made. record {
+      below = made.below;
+      exact = without_those c.reaching.new.table c.filter_set.new.table c.without.new.table c.in_ok-those.those c.in_ok-filter.filter set (ReachesNamed w c.args.asked.now.ttl q.from q.to) (λ h. IsIn q.filter (number h)) c.in_ok-filter.ensures.kept c.in_ok-those.ensures.set.below c.in_ok-those.ensures.set.exact c.in_ok-filter.ensures.set.exact made.exact;
+    }) c.without.ensures.set
 
 pub returns-clause-walks : goal.returns-clause-walks
 returns-clause-walks c =
     let w = world_of c.args.asked.now.net.now.world in
-    let k = keeps_then c.reaching.new.table c.filter_set.new.table c.without.new.table c.in_ok-filter.ensures.kept c.in_ok-set.ensures.kept in
-    walks_kept w c.args.asked.now.ttl c.reaching.new.table c.without.new.table c.args.asked.now.domain (get same_place c.reaching.new.walks) k (kept_below c.args.table.now c.reaching.new.table c.args.asked.now.domain c.in_ok-those.ensures.kept c.requires.asked.domain) c.in_ok-those.ensures.walks
+    let k = keeps_then c.reaching.new.table c.filter_set.new.table c.without.new.table c.in_ok-filter.ensures.kept c.without.ensures.kept in
+    IfOk-weaker c.without.result _ _ (λ set made. walks_kept w c.args.asked.now.ttl c.reaching.new.table c.without.new.table c.args.asked.now.domain (get same_place c.reaching.new.walks) k (kept_below c.args.table.now c.reaching.new.table c.args.asked.now.domain c.in_ok-those.ensures.kept c.requires.asked.domain) c.in_ok-those.ensures.walks) c.without.ensures.set

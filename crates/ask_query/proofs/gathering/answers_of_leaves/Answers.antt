@@ -1,7 +1,8 @@
-use Rattle.std.proofs.Common.{◌≡◌, ◌++◌, ◌∷◌, [], ℕ, All, List, map, inl, inr, sym, ap, subst, ◌∙◌, append_assoc}
+use Rattle.std.proofs.Common.{◌≡◌, ◌++◌, ◌∷◌, [], ℕ, All, List, map, inl, inr, sym, ap, subst, ◌∙◌, append_assoc, rules}
 use Rattle.std.specs.Prelude.{Contains}
 use Rattle.std.proofs.lemmas.List.{append-nil, map-append}
 use Rattle.std.proofs.lemmas.List.Elements.{All-contains, All-weaker, Contains-push_cases}
+use Rattle.std.proofs.lemmas.Result.{IfOk-weaker}
 use Rattle.net_view.specs.Borrowed.{world_of}
 use Rattle.task_board.specs.declared.leaf.Leaf.{Leaf}
 use Rattle.ask_query.specs.Slots.{IsKnown, numbers_of}
@@ -40,3 +41,6 @@ in_order-requires-clause-known g c n l =
     let all : done ≡ c.args.leaves.now.items = sym (append-nil done) ∙ ap (λ (ls : List (Leaf ℕ)). done ++ ls) (sym c.in-None.ensures.steps.0) ∙ c.loop-leaf.invariant.done in
     let put = c.loop-leaf.invariant.put i.slot (subst (λ (ls : List (Leaf ℕ)). Contains (map (λ x. x.value) ls) i.slot) (sym all) (c.requires.leaves i.slot i.within)) in
     subst (λ ks. IsKnown ks n) (sym c.deref.ensures.value) (All-contains (IsKnown known) (numbers_of slots i.slot) n put i.among)
+
+pub returns : goal.returns
+returns g c = IfOk-weaker c.in_order.result _ _ (λ x made. search rules) c.in_order.ensures

@@ -1,4 +1,5 @@
 use Rattle.std.proofs.Common.{◌≡◌, List, Some, slice_get, sym, subst}
+use Rattle.std.proofs.lemmas.Result.{IfOk-weaker}
 use Rattle.net_view.specs.Borrowed.{world_of}
 use Rattle.ask_query.proofs.WholeLemmas.{whole_kept}
 use Rattle.ask_query.specs.declared.looping.Level.{Level}
@@ -15,4 +16,4 @@ pub returns-clause-set : goal.returns-clause-set
 returns-clause-set c =
     let w = world_of c.args.net.now.world in
     let f = c.args.table.now in
-    c.in_ok-set.ensures.set f c.args.domain c.args.place (subst (λ ls. AreLevels w f c.args.domain c.args.place c.levels_of.new.table ls) (sym c.deref.ensures.value) c.in_ok-levels.ensures.levels)
+    IfOk-weaker c.looping_in.result _ _ (λ set made. made f c.args.domain c.args.place (subst (λ ls. AreLevels w f c.args.domain c.args.place c.levels_of.new.table ls) (sym c.deref.ensures.value) c.in_ok-levels.ensures.levels)) c.looping_in.ensures.set

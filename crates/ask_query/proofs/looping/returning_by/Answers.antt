@@ -1,3 +1,4 @@
+use Rattle.std.proofs.lemmas.Result.{IfOk-weaker}
 use Rattle.net_view.specs.Borrowed.{world_of}
 use Rattle.set_walk.proofs.SetLemmas.{keeps_then}
 use Rattle.ask_query.proofs.WholeLemmas.{whole_kept}
@@ -21,7 +22,7 @@ returns-clause-set c =
     let t2 = c.returning.new.table in
     let t3 = c.before_stamp.new.table in
     let k = keeps_then t0 t2 t3 (keeps_then t0 t1 t2 c.in_ok-arriving.ensures.kept c.in_ok-back.ensures.kept) c.in_ok-before.ensures.kept in
-    record {
-      below = c.in_ok-set.ensures.set.below;
-      exact = returned (world_of c.args.net.now.world) c.args.room t0 t1 t2 t3 c.both.new.table c.args.arrivals.place c.args.arrivals.stamp c.args.arrivals.headers c.in_ok-arriving.arriving c.in_ok-back.back c.in_ok-before.before c.in_ok-set.set c.requires.stamp c.requires.headers k c.in_ok-arriving.ensures.made c.in_ok-back.ensures.set.exact c.in_ok-before.ensures.set.exact c.in_ok-set.ensures.set.exact;
-    }
+    IfOk-weaker c.both.result _ _ (λ set made. record {
+      below = made.below;
+      exact = returned (world_of c.args.net.now.world) c.args.room t0 t1 t2 t3 c.both.new.table c.args.arrivals.place c.args.arrivals.stamp c.args.arrivals.headers c.in_ok-arriving.arriving c.in_ok-back.back c.in_ok-before.before set c.requires.stamp c.requires.headers k c.in_ok-arriving.ensures.made c.in_ok-back.ensures.set.exact c.in_ok-before.ensures.set.exact made.exact;
+    }) c.both.ensures.set

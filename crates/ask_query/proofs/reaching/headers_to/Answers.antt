@@ -1,4 +1,5 @@
 use Rattle.std.proofs.Common.{rules}
+use Rattle.std.proofs.lemmas.Result.{IfOk-weaker}
 use Rattle.ask_query.proofs.ReachingLemmas.{no_name, one_name}
 use Rattle.ask_query.proofs.reaching.headers_to.Goals as goal
 
@@ -11,7 +12,7 @@ returns-in_default-clause-set c =
 
 pub returns-clause-set : goal.returns-clause-set
 returns-clause-set c =
-    record {
-      below = c.in_ok-set.ensures.set.below;
-      exact = one_name c.args.table.now c.headers_at.new.table c.args.ends.now c.in_ok-set.set c.in-Some.place c.args.to (search rules) c.in_ok-set.ensures.set.exact;
-    }
+    IfOk-weaker c.headers_at.result _ _ (λ set made. record {
+      below = made.below;
+      exact = one_name c.args.table.now c.headers_at.new.table c.args.ends.now set c.in-Some.place c.args.to (search rules) made.exact;
+    }) c.headers_at.ensures.set

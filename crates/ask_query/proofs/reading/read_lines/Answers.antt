@@ -1,4 +1,4 @@
-use Rattle.std.proofs.Common.{◌≡◌, sym, subst, ap, ◌∙◌, map, ◌++◌, rules, Vec, Global}
+use Rattle.std.proofs.Common.{◌≡◌, sym, subst, ap, refl, ◌∙◌, map, ◌++◌, rules, Vec, Global}
 use Rattle.std.specs.Prelude.{Result, Err, option_map, option_to_list}
 use Rattle.net_text.specs.Lines.{piece}
 use Rattle.net_types.specs.declared.question.Question.{Question}
@@ -13,15 +13,15 @@ loop-line-init c = first_line c.args.devices.now c.args.bytes.now c.args.lines.n
 
 pub returns-in_err-question : goal.returns-in_err-question
 returns-in_err-question c =
-    let words : c.deref.result.now ≡ map (piece c.args.bytes.now) c.line-item.result.words = c.deref.ensures.value ∙ c.in_ok-words.ensures ∙ ap (map (piece c.args.bytes.now)) c.as_slice.ensures in
-    let first = ends c.args.devices.now c.args.bytes.now c.in_err-question.field-0.0 c.args.lines.now c.loop-line.line-index c.line-item.result c.deref.result.now (map said c.loop-line.questions.items) _ c.loop-line-test.true c.line-item.is words c.in_err-question.ensures c.loop-line.invariant in
-    let handed : c.from_residual-in_err-question.result ≡ Err c.in_err-question.field-0.0 = search rules in
+    let words = map (piece c.args.bytes.now) c.line-item.result.words in
+    let first = ends c.args.devices.now c.args.bytes.now c.in_err-question.field-0.0 c.args.lines.now c.loop-line.line-index c.line-item.result words (map said c.loop-line.questions.items) _ c.loop-line-test.true c.line-item.is refl c.in_err-question.ensures c.loop-line.invariant in
+    let handed : c.from_residual.result ≡ Err c.in_err-question.field-0.0 = search rules in
     subst (λ (r : Result (Vec Question Global) QuestionFail). Gives (λ qs. map said qs.items) r (questions_in c.args.devices.now c.args.bytes.now c.args.lines.now)) (sym handed) first
 
 pub loop-line-preserved : goal.loop-line-preserved
 loop-line-preserved c =
-    let words : c.deref.result.now ≡ map (piece c.args.bytes.now) c.line-item.result.words = c.deref.ensures.value ∙ c.in_ok-words.ensures ∙ ap (map (piece c.args.bytes.now)) c.as_slice.ensures in
-    let read = goes_on c.args.devices.now c.args.bytes.now c.args.lines.now c.loop-line.line-index c.line-item.result c.deref.result.now (map said c.loop-line.questions.items) (option_map said c.in_ok-question.question) _ c.loop-line-test.true c.line-item.is words c.in_ok-question.ensures c.loop-line.invariant in
+    let words = map (piece c.args.bytes.now) c.line-item.result.words in
+    let read = goes_on c.args.devices.now c.args.bytes.now c.args.lines.now c.loop-line.line-index c.line-item.result words (map said c.loop-line.questions.items) (option_map said c.in_ok-question.question) _ c.loop-line-test.true c.line-item.is refl c.in_ok-question.ensures c.loop-line.invariant in
     let more : map said c.add.new.questions.items ≡ map said c.loop-line.questions.items ++ option_to_list (option_map said c.in_ok-question.question) = ap (map said) c.in_ok-add.ensures ∙ said_more c.loop-line.questions.items c.in_ok-question.question in
     rw more read
 

@@ -1,5 +1,6 @@
 use Rattle.std.proofs.Common.{◌≡◌, ◌++◌, List, arith, sym, subst}
 use Rattle.std.proofs.lemmas.List.{take-append-drop}
+use Rattle.std.proofs.lemmas.Result.{IfOk-weaker}
 use Rattle.set_walk.proofs.SetLemmas.{keeps_then}
 use Rattle.incr_review.specs.declared.facts.FactSet.{FactSet}
 use Rattle.incr_review.specs.Facts.{AreFactsBelow, StandOnce}
@@ -17,7 +18,9 @@ one_fact-requires t c = c.requires.facts c.in-Some.first.now (from_get c.args.fa
 
 pub returns-then-facts-eq1-clause-numbers : goal.returns-then-facts-eq1-clause-numbers
 returns-then-facts-eq1-clause-numbers t c =
-    subst (λ (xs : List FactSet). AreFactNumbers c.one_fact.new.table xs c.in_ok-one.one) (sym (one_first c.args.facts.now c.in-Some.first.now c.if-facts-eq1.true c.in-Some.ensures.value)) c.in_ok-one.ensures.numbers
+    IfOk-weaker c.one_fact.result _ _
+    (λ one numbers. subst (λ (xs : List FactSet). AreFactNumbers c.one_fact.new.table xs one) (sym (one_first c.args.facts.now c.in-Some.first.now c.if-facts-eq1.true c.in-Some.ensures.value)) numbers)
+    c.one_fact.ensures.numbers
 
 pub fact_numbers-requires : goal.fact_numbers-requires
 fact_numbers-requires t c =
@@ -69,9 +72,11 @@ returns-clause-numbers t c =
     let left_below = facts_kept f g left c.in_ok-a.ensures.kept (front_below f left right below) in
     let right_below = facts_kept f g right c.in_ok-a.ensures.kept (back_below f left right below) in
     let kept = c.in_ok-b.ensures.kept in
-    subst (λ (xs : List FactSet). AreFactNumbers k xs c.in_ok-both.both) (sym e)
-    (both_numbered h k left right c.in_ok-a.a c.in_ok-b.b c.in_ok-both.both c.in_ok-both.ensures.kept (facts_kept g h left kept left_below) (facts_kept g h right kept right_below) (halves_apart left right (subst StandOnce e c.requires.once)) (numbers_kept g h left c.in_ok-a.a kept left_below c.in_ok-a.ensures.numbers) c.in_ok-b.ensures.numbers c.in_ok-both.ensures.told)
+    IfOk-weaker c.both_told.result _ _
+    (λ both told. subst (λ (xs : List FactSet). AreFactNumbers k xs both) (sym e)
+    (both_numbered h k left right c.in_ok-a.a c.in_ok-b.b both c.both_told.ensures.kept (facts_kept g h left kept left_below) (facts_kept g h right kept right_below) (halves_apart left right (subst StandOnce e c.requires.once)) (numbers_kept g h left c.in_ok-a.a kept left_below c.in_ok-a.ensures.numbers) c.in_ok-b.ensures.numbers told))
+    c.both_told.ensures.told
 
 pub returns-clause-kept : goal.returns-clause-kept
 returns-clause-kept t c =
-    keeps_then c.args.table.now c.fact_numbers.new.table c.both_told.new.table c.in_ok-a.ensures.kept (keeps_then c.fact_numbers.new.table c.fact_numbers-2.new.table c.both_told.new.table c.in_ok-b.ensures.kept c.in_ok-both.ensures.kept)
+    keeps_then c.args.table.now c.fact_numbers.new.table c.both_told.new.table c.in_ok-a.ensures.kept (keeps_then c.fact_numbers.new.table c.fact_numbers-2.new.table c.both_told.new.table c.in_ok-b.ensures.kept c.both_told.ensures.kept)

@@ -1,4 +1,5 @@
 use Rattle.std.proofs.Common.{map}
+use Rattle.std.proofs.lemmas.Result.{on_ok_weaker}
 use Rattle.net_types.specs.declared.network.Place.{Place}
 use Rattle.net_view.specs.Borrowed.{world_of}
 use Rattle.incr_review.specs.Again.{as_region}
@@ -10,8 +11,8 @@ returns-clause-added c =
     let walk = c.args.walk in
     let walking = c.args.walking in
     let none : Place = record { device = 0; interface = 0 } in
-    record {
+    on_ok_weaker c.add_parts.result (λ added. record {
       more = map (as_region walking) c.in_ok-parts.parts.items;
-      added = c.in_ok-add_parts.ensures;
+      added = added;
       are = walked_regions (world_of walk.net.now.world) walk.ttl _ walk.ingress.now c.walked_parts.new.table walking c.in_ok-parts.parts.items (at_default walk.ingress.now walking.slot none c.requires.slot) c.in_ok-parts.ensures.walked;
-    }
+    }) c.add_parts.ensures

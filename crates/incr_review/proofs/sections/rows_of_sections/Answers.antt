@@ -2,14 +2,14 @@ use Rattle.std.proofs.Common.{sym, subst, List, take_all, get_or}
 use Rattle.net_types.specs.declared.network.Place.{Place}
 use denote.Ref.{Bor}
 use Rattle.incr_review.specs.declared.regions.Region.{Region}
-use Rattle.incr_review.specs.Sections.{AreDiffering, ArePairsOf, regions_at}
+use Rattle.incr_review.specs.Sections.{AreDiffering, IsCountAt, regions_at}
 use Rattle.incr_review.proofs.RegionLemmas.{at_default}
 use Rattle.incr_review.proofs.SectionLemmas.{pairs_given, pairs_whole}
 use Rattle.incr_review.proofs.CountLemmas.{Counted, counted_more, none_counted}
 use Rattle.incr_review.proofs.sections.rows_of_sections.Goals as goal
 
-pub pairs_of-requires : goal.pairs_of-requires
-pairs_of-requires c =
+pub row_count_at-requires : goal.row_count_at-requires
+row_count_at-requires c =
     let differing = subst (λ (xs : List (Bor Region)). AreDiffering c.args.regions.now (regions_at xs)) (sym c.deref.ensures.value) c.in_ok-differing.ensures in
     λ r m. c.requires r (differing.from r m)
 
@@ -23,9 +23,9 @@ loop-slot-preserved c old new t review =
     let d : Place = record { device = 0; interface = 0 } in
     let p = get_or ingress i d in
     let l = c.loop-slot-test.true in
-    let given = c.in_ok-given.given in
-    let f = pairs_given old new t ingress c.args.table.now c.args.regions.now i p given (at_default ingress i d l) l review (pairs_whole c.args.table.now i c.args.regions.now (regions_at c.in_ok-differing.differing.items) given c.in_ok-differing.ensures (subst (λ (xs : List (Bor Region)). ArePairsOf c.args.table.now i (regions_at xs) given) c.deref.ensures.value c.in_ok-given.ensures)) in
-    counted_more old new t ingress i d given c.loop-slot.count c.in_ok-rows.rows _ l c.in_ok-given.ensures.distinct f c.in_ok-rows.ensures c.in_ok-count.ensures (c.loop-slot.invariant old new t review)
+    let at = subst (λ (xs : List (Bor Region)). IsCountAt c.args.table.now i (regions_at xs) c.in_ok-rows.rows) c.deref.ensures.value c.in_ok-rows.ensures in
+    let f = pairs_given old new t ingress c.args.table.now c.args.regions.now i p at.given (at_default ingress i d l) l review (pairs_whole c.args.table.now i c.args.regions.now (regions_at c.in_ok-differing.differing.items) at.given c.in_ok-differing.ensures at.pairs) in
+    counted_more old new t ingress i d at.given c.loop-slot.count c.in_ok-rows.rows _ l at.pairs.distinct f at.right c.in_ok-count.ensures (c.loop-slot.invariant old new t review)
 
 pub returns : goal.returns
 returns c old new t review =

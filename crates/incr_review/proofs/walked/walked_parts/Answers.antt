@@ -1,5 +1,6 @@
 use Rattle.std.proofs.Common.{subst, sym, ◌∙◌, List}
 use Rattle.std.specs.Prelude.{Contains}
+use Rattle.std.proofs.lemmas.Result.{IfOk-weaker}
 use Rattle.net_view.specs.Borrowed.{world_of}
 use Rattle.incr_review.specs.declared.facts.FactSet.{FactSet}
 use Rattle.incr_review.specs.declared.parts.Part.{Part}
@@ -33,5 +34,4 @@ returns-clause-walked c =
     let walked = c.in_ok-walked.walked in
     let g = c.parts_by.new.table in
     let cut = subst (λ (xs : List FactSet). AreParts g c.args.domain xs c.in_ok-parts.parts.items) (c.deref.ensures.value ∙ c.in_ok-facts.ensures) c.in_ok-parts.ensures.parts in
-    let all = subst (λ (xs : List Part). AreLabelled xs c.in_ok-all.all.items) c.deref-2.ensures.value c.in_ok-all.ensures in
-    parts_walked (world_of c.args.net.now.world) c.args.ttl c.args.place c.args.table.now c.labels_and_visitors.new.table g c.args.domain walked.ends.items walked.visitors.items c.in_ok-parts.parts.items c.in_ok-all.all.items c.requires.ttl c.in_ok-walked.ensures.kept c.in_ok-parts.ensures.kept c.requires.domain c.in_ok-walked.ensures.labels c.in_ok-walked.ensures.visitors cut all
+    IfOk-weaker c.labelled.result _ _ (λ all labelled. parts_walked (world_of c.args.net.now.world) c.args.ttl c.args.place c.args.table.now c.labels_and_visitors.new.table g c.args.domain walked.ends.items walked.visitors.items c.in_ok-parts.parts.items all.items c.requires.ttl c.in_ok-walked.ensures.kept c.in_ok-parts.ensures.kept c.requires.domain c.in_ok-walked.ensures.labels c.in_ok-walked.ensures.visitors cut (subst (λ (xs : List Part). AreLabelled xs all.items) c.deref-2.ensures.value labelled)) c.labelled.ensures

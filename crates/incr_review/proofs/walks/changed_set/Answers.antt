@@ -1,3 +1,4 @@
+use Rattle.std.proofs.lemmas.Result.{IfOk-weaker}
 use Rattle.indexmap.specs.IndexMap.{get}
 use Rattle.net_types.specs.World.{same_place}
 use Rattle.net_view.specs.Borrowed.{world_of}
@@ -11,6 +12,6 @@ changed_headers-requires-clause-after c =
     ways_given (world_of net.world) c.args.table.now net.scope net.lists.now (get same_place net.places.now) c.requires.net
 
 pub returns-clause-walks : goal.returns-clause-walks
-returns-clause-walks c w b p h v n t =
+returns-clause-walks c =
     let net = c.args.again.net.now in
-    outside_same w (world_of net.world) c.args.table.now c.changed_headers.new.table net.scope c.in_ok-changed.changed (record { device = c.args.again.device; lists = net.lists; before = c.args.again.before; after = net.places }) c.requires.all b.ways c.requires.net b.differs b.others c.in_ok-changed.ensures.agree (b.plain c.if-not-again.false) p h v n t
+    IfOk-weaker c.changed_headers.result _ _ (λ changed agree w b p h v n t. outside_same w (world_of net.world) c.args.table.now c.changed_headers.new.table net.scope changed (record { device = c.args.again.device; lists = net.lists; before = c.args.again.before; after = net.places }) c.requires.all b.ways c.requires.net b.differs b.others agree (b.plain c.if-not-again.false) p h v n t) c.changed_headers.ensures.agree

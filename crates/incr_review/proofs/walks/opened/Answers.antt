@@ -1,4 +1,5 @@
 use Rattle.std.proofs.Common.{List, length, subst}
+use Rattle.std.proofs.lemmas.Result.{IfOk-weaker}
 use Rattle.net_types.specs.declared.network.Place.{Place}
 use Rattle.net_view.specs.Borrowed.{world_of}
 use Rattle.incr_review.specs.Opened.{AreOpened}
@@ -11,10 +12,10 @@ all_regions-requires-clause-walk c = record { net = c.requires.net; all = c.requ
 pub returns-clause-reviewed : goal.returns-clause-reviewed
 returns-clause-reviewed c =
     let w = world_of c.args.net.now.world in
-    let rs = c.in_ok-regions.regions.items in
     let g = c.all_regions.new.table in
-    opened_reviewed w c.args.ttl w.links.ingress g rs
-    (subst (λ (ps : List Place). AreOpened w c.args.ttl ps g (length ps) rs) c.as_slice.ensures c.in_ok-regions.ensures.opened)
+    IfOk-weaker c.all_regions.result _ _
+    (λ regions opened. opened_reviewed w c.args.ttl w.links.ingress g regions.items (subst (λ (ps : List Place). AreOpened w c.args.ttl ps g (length ps) regions.items) c.as_slice.ensures opened))
+    c.all_regions.ensures.opened
 
 pub returns-clause-apart : goal.returns-clause-apart
-returns-clause-apart c = c.in_ok-regions.ensures.opened.apart
+returns-clause-apart c = IfOk-weaker c.all_regions.result _ _ (λ regions opened. opened.apart) c.all_regions.ensures.opened

@@ -1,4 +1,5 @@
 use Rattle.std.proofs.Common.{subst, sym, filter, map, List}
+use Rattle.std.proofs.lemmas.Result.{on_ok_weaker}
 use Rattle.net_view.specs.Borrowed.{world_of}
 use Rattle.net_types.specs.declared.network.Place.{Place}
 use Rattle.net_types.proofs.Members.{in_filter}
@@ -10,7 +11,7 @@ use Rattle.incr_review.specs.Again.{AreAgain, ArePlaced, leaves}
 use Rattle.incr_review.specs.Groups.{AreJoined, IsDisjoint, as_known}
 use Rattle.incr_review.specs.Sections.{AreBelow}
 use Rattle.incr_review.proofs.GroupLemmas.{again_joined, known_placed}
-use Rattle.incr_review.proofs.walks.walked_split.Goals as goal
+use Rattle.incr_review.proofs.walks.walk_inside.Goals as goal
 
 pub leaving_groups-requires-clause-below : goal.leaving_groups-requires-clause-below
 leaving_groups-requires-clause-below c = subst (λ (xs : List Region). AreBelow c.args.table.now xs) (sym c.deref.ensures.value) (λ r m. (c.requires.inside r m).1)
@@ -29,7 +30,7 @@ add_groups-requires-clause-walk c =
 pub add_groups-requires-clause-groups : goal.add_groups-requires-clause-groups
 add_groups-requires-clause-groups c =
     let d = c.args.again.device.now.name in
-    let inside = c.args.split.inside.items in
+    let inside = c.args.split.now.inside.items in
     let f = c.args.table.now in
     let e = c.leaving_groups.new.table in
     let gs = c.in_ok-groups.groups.items in
@@ -45,13 +46,14 @@ returns-clause-added c =
     let d = s.device.now.name in
     let w = world_of s.net.now.world in
     let ingress = w.links.ingress in
-    let inside = c.args.split.inside.items in
+    let inside = c.args.split.now.inside.items in
     let f = c.args.table.now in
     let e = c.leaving_groups.new.table in
     let g = c.add_groups.new.table in
     let gs = c.in_ok-groups.groups.items in
-    let a = c.in_ok-add_groups.ensures.added in
     let joined : AreJoined f (filter (leaves d) inside) e gs = subst (λ (xs : List Region). AreJoined f (filter (leaves d) xs) e gs) c.deref.ensures.value c.in_ok-groups.ensures.joined in
+    on_ok_weaker c.add_groups.result (λ a.
     let placed : AreAgain w s.ttl ingress e (map as_known c.deref-2.result.now) g a.more = subst (λ (ps : List Place). AreAgain w s.ttl ps e (map as_known c.deref-2.result.now) g a.more) c.as_slice.ensures a.are in
     let known : AreAgain w s.ttl ingress e (map as_known gs) g a.more = subst (λ (xs : List Group). AreAgain w s.ttl ingress e (map as_known xs) g a.more) c.deref-2.ensures.value placed in
-    record { more = a.more; added = a.added; are = again_joined w s.ttl ingress f (filter (leaves d) inside) e gs g a.more joined known }
+    record { more = a.more; added = a.added; are = again_joined w s.ttl ingress f (filter (leaves d) inside) e gs g a.more joined known })
+    c.add_groups.ensures.added
