@@ -9,7 +9,7 @@ ghost use Rattle.doctor_warnings.specs.Warnings.{config_told, config_warnings};
 
 use crate::examined::Examined;
 use crate::told::{ToldLine, told_lines};
-use crate::warning::Warning;
+use crate::warning::{Warning, tell};
 use config_checks::{ConfigFinding, config_findings};
 use net_types::{Duplicate, NoMemory, Text};
 use std::alloc::Global;
@@ -44,7 +44,7 @@ fn add_found(
 {
     for finding in found {
         let path = path.copy(alloc)?;
-        warnings.push(Warning::Config { path, finding })?;
+        tell(warnings, Warning::Config { path, finding })?;
     }
     Ok(())
 }

@@ -6,11 +6,10 @@ ghost use Rattle.doctor_warnings.specs.Readings.{config_by, config_in, refusal_i
 
 use crate::files::TextFile;
 use ios_config::{Examination, PassedLine, Reading, Refusal, examine};
-use net_types::{List, NoMemory};
+use net_types::{Loaded, NoMemory};
 use std::alloc::Global;
 
 /// A file with what it is read as, and with the lines that are passed over.
-#[derive(Drop)]
 pub struct Examined {
     pub file: TextFile,
     pub passed: Vec<PassedLine>,
@@ -18,6 +17,40 @@ pub struct Examined {
     ghost exact: { passed.items ≡ passed_lines file.bytes },
     ghost refused: { refusal_in reading ≡ refusal (effects file.bytes) },
     ghost loaded: { config_in reading ≡ config_by file.bytes },
+}
+
+impl Drop for Examined {
+    fn drop(self) {
+        let Examined {
+            file: _,
+            passed: _,
+            reading: _,
+        } = self;
+    }
+}
+
+impl Examined {
+    ghost use Rattle.doctor_warnings.specs.Tables.{device_of};
+
+    /// The file's configuration, where it isn't refused.
+    pub(crate) fn into_device(self) -> Option<Loaded>
+        ensures { result ≡ device_of self.file }
+    {
+        let Examined {
+            file,
+            passed: _,
+            reading,
+        } = self;
+        let TextFile { name, bytes: _ } = file;
+        match reading {
+            Ok(Reading { config, passed }) => Some(Loaded {
+                file: name,
+                config,
+                passed,
+            }),
+            Err(_) => None,
+        }
+    }
 }
 
 /// What is found in each of the files.

@@ -14,18 +14,41 @@ use crate::examined::Examined;
 use crate::hosts::add_taken;
 use crate::lines::{nth_line, trimmed};
 use crate::passing::{Beside, add_passed};
-use crate::warning::Warning;
+use crate::warning::{Warning, tell};
 use ios_config::Refusal;
 use net_types::{Duplicate, List, NoMemory, Text};
 use std::alloc::Global;
 
 /// A folder whose files were examined.
-#[derive(Drop)]
 pub struct Folder {
     pub path: Text,
     pub files: Vec<Examined>,
     /// The names of its other files.
     pub unread: List<Text>,
+}
+
+impl Drop for Folder {
+    fn drop(self) {
+        let Folder {
+            path: _,
+            files: _,
+            unread: _,
+        } = self;
+    }
+}
+
+impl Folder {
+    /// Its files that are read.
+    pub(crate) fn into_files(self) -> Vec<Examined>
+        ensures { result ≡ self.files }
+    {
+        let Folder {
+            path: _,
+            files,
+            unread: _,
+        } = self;
+        files
+    }
 }
 
 /// Adds what is told of a folder, beside another one where there is one: of the folder as a whole, of its files in their order,
@@ -56,8 +79,7 @@ fn add_empty(alloc: Global, folder: &Folder, warnings: &mut Vec<Warning>) -> Res
     match folder.files.as_slice() {
         [] => {
             let folder = folder.path.copy(alloc)?;
-            warnings.push(Warning::NoConfigs { folder })?;
-            Ok(())
+            tell(warnings, Warning::NoConfigs { folder })
         }
         [_, ..] => Ok(()),
     }
@@ -69,7 +91,7 @@ fn add_unread(alloc: Global, folder: &Folder, warnings: &mut Vec<Warning>) -> Re
 {
     for name in folder.unread.as_slice() {
         let path = path_in(alloc, folder.path.as_bytes(), name)?;
-        warnings.push(Warning::Unread { path })?;
+        tell(warnings, Warning::Unread { path })?;
     }
     Ok(())
 }
@@ -157,7 +179,7 @@ fn add_alone(
 {
     if alone {
         let path = path.copy(alloc)?;
-        warnings.push(Warning::OneFolder { path })?;
+        tell(warnings, Warning::OneFolder { path })?;
     }
     Ok(())
 }
@@ -175,8 +197,10 @@ fn add_refusal(
     match &file.reading {
         Ok(_) => Ok(()),
         Err(refusal) => {
-            warnings.push(refused_warning(alloc, path, file.file.bytes.as_slice(), refusal)?)?;
-            Ok(())
+            tell(
+                warnings,
+                refused_warning(alloc, path, file.file.bytes.as_slice(), refusal)?,
+            )
         }
     }
 }

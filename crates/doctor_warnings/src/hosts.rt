@@ -6,7 +6,7 @@ ghost use Rattle.doctor_warnings.specs.Warnings.{first_host, has_host, host_in, 
 
 use crate::examined::Examined;
 use crate::folder::path_in;
-use crate::warning::Warning;
+use crate::warning::{Warning, tell};
 use net_types::{NoMemory, Text};
 use std::alloc::Global;
 
@@ -79,9 +79,11 @@ fn tell_taken(
     let Some(first) = first else {
         return Ok(());
     };
-    warnings.push(Warning::HostTaken {
-        path: path_in(alloc, folder, &file.file.name)?,
-        first: path_in(alloc, folder, &first.file.name)?,
-    })?;
-    Ok(())
+    tell(
+        warnings,
+        Warning::HostTaken {
+            path: path_in(alloc, folder, &file.file.name)?,
+            first: path_in(alloc, folder, &first.file.name)?,
+        },
+    )
 }

@@ -19,7 +19,6 @@ pub enum LimitKind {
 }
 
 /// A place where a network meets a limit of the model.
-#[derive(Drop)]
 pub struct Limit {
     pub path: Text,
     /// From 1.
@@ -27,6 +26,17 @@ pub struct Limit {
     /// What isn't modelled as it is, in a few words.
     pub words: Text,
     pub kind: LimitKind,
+}
+
+impl Drop for Limit {
+    fn drop(self) {
+        let Limit {
+            path: _,
+            line: _,
+            words: _,
+            kind: _,
+        } = self;
+    }
 }
 
 /// Those of what is refused.

@@ -11,7 +11,6 @@ use net_types::{Duplicate, NoMemory, Text};
 use std::alloc::Global;
 
 /// A line that is passed over.
-#[derive(Drop)]
 pub struct ListedLine {
     pub path: Text,
     /// From 1.
@@ -20,6 +19,17 @@ pub struct ListedLine {
     pub words: Text,
     /// The line, up to its last word.
     pub text: Text,
+}
+
+impl Drop for ListedLine {
+    fn drop(self) {
+        let ListedLine {
+            path: _,
+            line: _,
+            words: _,
+            text: _,
+        } = self;
+    }
 }
 
 /// Adds those of the files of a folder, in their order.

@@ -1,7 +1,6 @@
 //! What is told of one network or two.
 ghost use Rattle.std.specs.Prelude.{◌≡◌, ◌++◌, IfOk, OnOk, None, Some, map, option_map};
 ghost use Rattle.doctor_warnings.specs.Doctor.{tables_limits, tables_warnings, warnings_alone, warnings_of_both, wired_limits, AreNotes};
-ghost use Rattle.doctor_warnings.specs.Limits.{refused_limits};
 ghost use Rattle.doctor_warnings.specs.Listed.{listed_if};
 ghost use Rattle.doctor_warnings.specs.Sides.{files_in, texts_in};
 ghost use Rattle.doctor_warnings.specs.Tables.{devices_of};
@@ -10,7 +9,7 @@ ghost use Rattle.doctor_warnings.specs.Warnings.{folder_warnings};
 use crate::examined::{Examined, examine_all};
 use crate::files::{TextAt, TextFile};
 use crate::folder::{Folder, add_folder};
-use crate::limit::{Limit, refused_limits};
+use crate::limit::Limit;
 use crate::listing::{ListedLine, add_lines};
 use crate::tables::{TableNotes, add_table, both_of, devices_of};
 use crate::warning::Warning;
@@ -46,13 +45,22 @@ pub struct Subject {
 }
 
 /// Everything that is told.
-#[derive(Drop)]
 pub struct Notes {
     pub warnings: List<Warning>,
     /// Where the networks meet a limit of the model.
     pub limits: List<Limit>,
     /// The lines that are passed over, where all are asked for.
     pub lines: List<ListedLine>,
+}
+
+impl Drop for Notes {
+    fn drop(self) {
+        let Notes {
+            warnings: _,
+            limits: _,
+            lines: _,
+        } = self;
+    }
 }
 
 /// Everything that is told of the networks and their tables, in order.
@@ -107,7 +115,7 @@ fn notes_alone(alloc: Global, all: bool, net: Folder, tables: &Tables) -> Result
 {
     let mut notes = TableNotes::new(alloc);
     let lines = tell_alone(alloc, all, net, tables, &mut notes)?;
-    finish(alloc, notes, lines)
+    notes.finish(alloc, lines)
 }
 
 /// Adds what is told of one network. The answer are the lines of its folder that are listed.
@@ -123,7 +131,7 @@ fn tell_alone(
     ensures lines { IfOk result (λ lines. lines.items ≡ listed_if all (texts_in net) None) }
 {
     let lines = tell_folder(alloc, all, &net, &mut notes.warnings)?;
-    tell_devices(alloc, net.files, tables, notes)?;
+    tell_devices(alloc, net.into_files(), tables, notes)?;
     Ok(lines)
 }
 
@@ -167,7 +175,7 @@ fn notes_on_both(
 {
     let mut notes = TableNotes::new(alloc);
     let lines = tell_both(alloc, all, old, new, tables, &mut notes)?;
-    finish(alloc, notes, lines)
+    notes.finish(alloc, lines)
 }
 
 /// Adds what is told of two networks. The answer are the lines of their folders that are listed.
@@ -184,7 +192,7 @@ fn tell_both(
     ensures lines { IfOk result (λ lines. lines.items ≡ listed_if all (texts_in old) (Some (texts_in new))) }
 {
     let lines = tell_folders(alloc, all, &old, &new, &mut notes.warnings)?;
-    tell_both_devices(alloc, old.files, new.files, tables, notes)?;
+    tell_both_devices(alloc, old.into_files(), new.into_files(), tables, notes)?;
     Ok(lines)
 }
 
@@ -259,25 +267,4 @@ fn add_tables(
             add_table(alloc, Wiring::New, new_links, both_of(new, old), notes)
         }
     }
-}
-
-/// The notes, with the limits of what is refused first.
-fn finish(alloc: Global, notes: TableNotes, lines: Vec<ListedLine>) -> Result<Notes, NoMemory>
-    ensures warnings { IfOk result (λ n. n.warnings ≡ notes.warnings.items) }
-    ensures limits { IfOk result (λ n. n.limits ≡ refused_limits notes.warnings.items ++ notes.limits.items) }
-    ensures lines { IfOk result (λ n. n.lines ≡ lines.items) }
-{
-    let TableNotes {
-        warnings,
-        limits: wired,
-    } = notes;
-    let mut limits = refused_limits(alloc, &warnings)?;
-    for limit in wired {
-        limits.push(limit)?;
-    }
-    Ok(Notes {
-        warnings: List::new(warnings),
-        limits: List::new(limits),
-        lines: List::new(lines),
-    })
 }

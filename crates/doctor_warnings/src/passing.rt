@@ -8,19 +8,24 @@ ghost use Rattle.doctor_warnings.specs.Warnings.{is_only_here, look_of, passed_b
 use crate::examined::Examined;
 use crate::lines::line_at;
 use crate::told::{ToldLine, told_lines};
-use crate::warning::{Reason, Warning};
+use crate::warning::{Reason, Warning, tell};
 use look_alikes::{LookAlike, look_alike};
 use net_types::{Duplicate, NoMemory, Text};
 use std::alloc::Global;
 use text_tallies::Tallies;
 
 /// How often lines stand in two files, by their keys.
-#[derive(Drop)]
 pub struct Beside {
     /// All lines of the other folder's file of the same name.
     pub there: Tallies,
     /// The lines of this file so far.
     pub here: Tallies,
+}
+
+impl Drop for Beside {
+    fn drop(self) {
+        let Beside { there: _, here: _ } = self;
+    }
 }
 
 impl Beside {
@@ -139,13 +144,15 @@ fn add_reason(
     let Some(reason) = reason else {
         return Ok(());
     };
-    warnings.push(Warning::Passed {
-        path: path.copy(alloc)?,
-        line: line.number,
-        reason,
-        text: Text::copy_of(alloc, line.text(bytes))?,
-    })?;
-    Ok(())
+    tell(
+        warnings,
+        Warning::Passed {
+            path: path.copy(alloc)?,
+            line: line.number,
+            reason,
+            text: Text::copy_of(alloc, line.text(bytes))?,
+        },
+    )
 }
 
 fn reason_by(look: Option<LookAlike>, only: bool) -> Option<Reason>

@@ -2,28 +2,39 @@
 ghost use Rattle.std.specs.Prelude.{◌≡◌, [], ◌∷◌, ◌++◌, IfOk, OnOk, map, option_map};
 ghost use Rattle.topo_links.specs.NetIndex.{Judges};
 ghost use Rattle.place_checks.specs.Sights.{folders_of};
-ghost use Rattle.doctor_warnings.specs.Tables.{both_of, device_of, devices_of, fault_of, is_own, judged, judged_limits, judged_warnings, loaded_file, met_links, pair_of, place_limits, place_warnings, places_told, refused_line, strays_told, table_limits, table_warnings};
+ghost use Rattle.doctor_warnings.specs.Tables.{both_of, devices_of, fault_of, is_own, judged, judged_limits, judged_warnings, loaded_file, met_links, pair_of, place_limits, place_warnings, places_told, refused_line, strays_told, table_limits, table_warnings};
 
 use crate::examined::Examined;
-use crate::files::{TextAt, TextFile};
-use crate::limit::{Limit, LimitKind};
+use crate::files::TextAt;
+use crate::limit::{Limit, LimitKind, refused_limits};
 use crate::lines::{nth_line, trimmed};
-use crate::warning::Warning;
+use crate::listing::ListedLine;
+use crate::network::Notes;
+use crate::warning::{Warning, tell};
 use crate::wiring::Wiring;
-use ios_config::Reading;
 use net_types::{Duplicate, List, Loaded, NoMemory, Text};
 use place_checks::{Folders, LinkFindings, Networks, PlaceFinding, StrayNext, link_findings};
 use std::alloc::Global;
 use topo_links::{LinkFail, LinkRefusal, LinkTable, check, check_own, read_links};
 
 /// What is told of tables.
-#[derive(Drop)]
 pub struct TableNotes {
     pub warnings: Vec<Warning>,
     pub limits: Vec<Limit>,
 }
 
+impl Drop for TableNotes {
+    fn drop(self) {
+        let TableNotes {
+            warnings: _,
+            limits: _,
+        } = self;
+    }
+}
+
 impl TableNotes {
+    ghost use Rattle.doctor_warnings.specs.Limits.{refused_limits};
+
     /// Nothing yet.
     pub(crate) fn new(alloc: Global) -> TableNotes
         ensures warnings { result.warnings.items ≡ [] }
@@ -33,6 +44,27 @@ impl TableNotes {
             warnings: Vec::new(alloc),
             limits: Vec::new(alloc),
         }
+    }
+
+    /// The notes, with the limits of what is refused first.
+    pub(crate) fn finish(self, alloc: Global, lines: Vec<ListedLine>) -> Result<Notes, NoMemory>
+        ensures warnings { IfOk result (λ n. n.warnings ≡ self.warnings.items) }
+        ensures limits { IfOk result (λ n. n.limits ≡ refused_limits self.warnings.items ++ self.limits.items) }
+        ensures lines { IfOk result (λ n. n.lines ≡ lines.items) }
+    {
+        let TableNotes {
+            warnings,
+            limits: wired,
+        } = self;
+        let mut limits = refused_limits(alloc, &warnings)?;
+        for limit in wired {
+            limits.push(limit)?;
+        }
+        Ok(Notes {
+            warnings: List::new(warnings),
+            limits: List::new(limits),
+            lines: List::new(lines),
+        })
     }
 }
 
@@ -53,7 +85,7 @@ pub(crate) fn devices_of(
     let mut devices = Vec::new(alloc);
     let mut refused = false;
     for file in files {
-        match device_of(file) {
+        match file.into_device() {
             Some(device) => devices.push(device)?,
             None => refused = true,
         }
@@ -62,26 +94,6 @@ pub(crate) fn devices_of(
         return Ok(None);
     }
     Ok(Some(List::new(devices)))
-}
-
-/// A file's configuration, where it isn't refused.
-fn device_of(examined: Examined) -> Option<Loaded>
-    ensures { result ≡ device_of examined.file }
-{
-    let Examined {
-        file,
-        passed: _,
-        reading,
-    } = examined;
-    let TextFile { name, bytes: _ } = file;
-    match reading {
-        Ok(Reading { config, passed }) => Some(Loaded {
-            file: name,
-            config,
-            passed,
-        }),
-        Err(_) => None,
-    }
 }
 
 /// Two networks of which no file is refused.
@@ -136,14 +148,16 @@ fn add_refused(
     ensures { OnOk result (warnings.new.items ≡ warnings.old.items ++ refused_line table.now.path table.now.bytes kind line word ∷ []) }
 {
     let text = Text::copy_of(alloc, trimmed(nth_line(table.bytes.as_slice(), line)))?;
-    warnings.push(Warning::Refused {
-        path: table.path.copy(alloc)?,
-        line,
-        kind: Text::copy_of(alloc, kind.name().as_bytes())?,
-        word,
-        text,
-    })?;
-    Ok(())
+    tell(
+        warnings,
+        Warning::Refused {
+            path: table.path.copy(alloc)?,
+            line,
+            kind: Text::copy_of(alloc, kind.name().as_bytes())?,
+            word,
+            text,
+        },
+    )
 }
 
 /// Adds what is told of the lines of a table.
@@ -243,7 +257,7 @@ fn add_strays(
 {
     for next in strays {
         let path = path.copy(alloc)?;
-        warnings.push(Warning::Stray { path, two, next })?;
+        tell(warnings, Warning::Stray { path, two, next })?;
     }
     Ok(())
 }
@@ -259,7 +273,7 @@ fn add_found(
 {
     for finding in found {
         let path = path.copy(alloc)?;
-        warnings.push(Warning::Place { path, two, finding })?;
+        tell(warnings, Warning::Place { path, two, finding })?;
     }
     Ok(())
 }

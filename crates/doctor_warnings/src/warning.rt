@@ -1,8 +1,9 @@
 //! What is told.
+ghost use Rattle.std.specs.Prelude.{◌≡◌, ◌++◌, ◌∷◌, [], OnOk};
 
 use config_checks::ConfigFinding;
 use look_alikes::LookAlike;
-use net_types::Text;
+use net_types::{NoMemory, Text};
 use place_checks::{PlaceFinding, StrayNext};
 
 /// Why a line that is passed over is told.
@@ -15,7 +16,6 @@ pub enum Reason {
 }
 
 /// Something to look at before a comparison is believed.
-#[derive(Drop)]
 pub enum Warning {
     /// The folder has no file that is read.
     NoConfigs {
@@ -75,4 +75,50 @@ pub enum Warning {
         two: bool,
         next: StrayNext,
     },
+}
+
+impl Drop for Warning {
+    fn drop(self) {
+        match self {
+            Warning::NoConfigs { folder: _ } => {}
+            Warning::Unread { path: _ } => {}
+            Warning::OneFolder { path: _ } => {}
+            Warning::HostTaken { path: _, first: _ } => {}
+            Warning::Refused {
+                path: _,
+                line: _,
+                kind: _,
+                word: _,
+                text: _,
+            } => {}
+            Warning::Passed {
+                path: _,
+                line: _,
+                reason: _,
+                text: _,
+            } => {}
+            Warning::Config {
+                path: _,
+                finding: _,
+            } => {}
+            Warning::Place {
+                path: _,
+                two: _,
+                finding: _,
+            } => {}
+            Warning::Stray {
+                path: _,
+                two: _,
+                next: _,
+            } => {}
+        }
+    }
+}
+
+/// Adds a warning.
+pub(crate) fn tell(warnings: &mut Vec<Warning>, warning: Warning) -> Result<(), NoMemory>
+    ensures { OnOk result (warnings.new.items ≡ warnings.old.items ++ warning ∷ []) }
+{
+    warnings.push(warning)?;
+    Ok(())
 }

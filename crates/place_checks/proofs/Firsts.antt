@@ -1,9 +1,10 @@
 -- The first of a list that passes a test, and the value that a table has for the test's key, as both grow.
-use Rattle.std.proofs.Common.{◌≡◌, ℕ, ◌+◌, ◌<◌, Bool, true, false, cond, List, [], ◌∷◌, ◌++◌, length, take, drop, get_or, find, map, Option, Some, None, is_some, refl, sym, ap, ◌∙◌, append_assoc}
+use Rattle.std.proofs.Common.{◌≡◌, ℕ, ◌+◌, ◌<◌, Bool, true, false, cond, List, [], ◌∷◌, ◌++◌, length, take, drop, get_or, find, map, filter, Option, Some, None, is_some, refl, sym, ap, ◌∙◌, append_assoc}
 use Rattle.std.specs.Prelude.{option_map, flat_map, filter_map, Result, Ok, Err, OnOk}
-use Rattle.std.specs.List.{cons_option}
-use Rattle.std.proofs.lemmas.List.{map-append, take_more, take-append-drop, flat_map_more}
-use Rattle.std.proofs.lemmas.List.Elements.{filter_map-append}
+use Rattle.std.specs.List.{cons_option, fold}
+use Rattle.std.proofs.lemmas.List.{append-nil, map-append, take_more, take-append-drop, flat_map_more}
+use Rattle.std.proofs.lemmas.List.Elements.{filter_map-append, filter_more}
+use Rattle.std.proofs.lemmas.List.Sums.{fold_more}
 use Rattle.topo_links.specs.Table.{first}
 use Rattle.std.specs.Option.{option_or}
 use Rattle.std.specs.Map.{lookup}
@@ -84,6 +85,23 @@ module _ {A B : Type 0} (bs : List B) (xs : List A) (i : ℕ) (x : A) (low : i <
 
   pub push_flat : (f : A → List B) → (bs ++ flat_map f (take i xs)) ++ f x ≡ bs ++ flat_map f (take (i + 1) xs)
   push_flat f = flat_map_more f bs (take i xs) x ∙ ap (λ l. bs ++ flat_map f l) (sym next)
+
+-- the same of those that pass a test, and of what is gathered
+module _ {A : Type 0} (xs : List A) (i : ℕ) (x : A) (low : i < length xs) (is : x ≡ get_or xs i x) where
+  filter_next : (p : A → Bool) (b : Bool) → b ≡ p x → filter p (take i xs) ++ cond b (x ∷ []) [] ≡ filter p (take (i + 1) xs)
+  filter_next p b e =
+      ap (λ c. filter p (take i xs) ++ cond c (x ∷ []) []) e
+      ∙ ap (λ y. filter p (take i xs) ++ cond (p y) (y ∷ []) []) is
+      ∙ sym (filter_more p xs i x low)
+
+  pub filter_kept : (p : A → Bool) → true ≡ p x → filter p (take i xs) ++ x ∷ [] ≡ filter p (take (i + 1) xs)
+  filter_kept p e = filter_next p true e
+
+  pub filter_left : (p : A → Bool) → false ≡ p x → filter p (take i xs) ≡ filter p (take (i + 1) xs)
+  filter_left p e = sym (append-nil (filter p (take i xs))) ∙ filter_next p false e
+
+  pub fold_next : {B : Type 0} (f : B → A → B) (a : B) → f (fold f a (take i xs)) x ≡ fold f a (take (i + 1) xs)
+  fold_next f a = ap (f (fold f a (take i xs))) is ∙ sym (fold_more f a xs i x low)
 
 module _ {A B : Type 0} (f : A → Option B) (xs : List A) (i : ℕ) (x : A) (low : i < length xs) (is : x ≡ get_or xs i x) (none : filter_map f (take i xs) ≡ []) where
   so_far : filter_map f (take (i + 1) xs) ≡ cons_option (f x) []

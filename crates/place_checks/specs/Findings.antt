@@ -1,6 +1,6 @@
 -- What is wrong with the links of networks, as a whole list: line by line and end by end, then place by place what isn't
 -- linked. What is told is this product's choice; what becomes of packets there is said by the rules for places and links.
-use Rattle.std.specs.Prelude.{ℕ, Bool, true, false, not, ◌&&◌, ◌==◌, List, [], ◌∷◌, ◌++◌, Option, Some, None, flat_map, is_some, if◌then◌else◌}
+use Rattle.std.specs.Prelude.{ℕ, Bool, true, false, not, ◌&&◌, ◌||◌, ◌==◌, List, [], ◌∷◌, ◌++◌, Option, Some, None, flat_map, is_some, if◌then◌else◌}
 use Rattle.std.specs.Option.{option_or}
 use Rattle.std.specs.List.{list_any}
 use Rattle.net_types.specs.declared.config.Interface.{Interface}
@@ -157,6 +157,16 @@ interface_added p ls l i = added_findings p ls (place_of l i)
 
 abbrev pub device_added : Pair → List LinkLine → Loaded → List PlaceFinding
 device_added p ls l = flat_map (interface_added p ls l) l.config.interfaces
+
+-- both kinds by one definition: those of the new network where the old one doesn't have the place, or all
+abbrev pub told_findings : Bool → Pair → List LinkLine → End → List PlaceFinding
+told_findings added p ls e = if not added || is_added p e then unlinked_findings p ls e else []
+
+abbrev pub interface_told : Bool → Pair → List LinkLine → Loaded → Interface → List PlaceFinding
+interface_told added p ls l i = told_findings added p ls (place_of l i)
+
+abbrev pub device_told : Bool → Pair → List LinkLine → Loaded → List PlaceFinding
+device_told added p ls l = flat_map (interface_told added p ls l) l.config.interfaces
 
 -- ---- all together
 

@@ -69,8 +69,12 @@ if_judged judged xs = if judged then xs else []
 abbrev pub stray : ℕ → End → ℕ → Networks → StrayNext
 stray n e a w = record { line = n; place = e; next = a; networks = w }
 
+-- the networks that have a next hop of the old one
+abbrev pub networks_with : List ℕ → ℕ → Networks
+networks_with new a = if has_value a new then Both else Old
+
 abbrev pub stray_in_old : ℕ → End → List ℕ → ℕ → StrayNext
-stray_in_old n e new a = stray n e a (if has_value a new then Both else Old)
+stray_in_old n e new a = stray n e a (networks_with new a)
 
 abbrev pub stray_in_new : ℕ → End → ℕ → StrayNext
 stray_in_new n e a = stray n e a New

@@ -11,11 +11,20 @@ use std::alloc::Global;
 use topo_links::NameIndex;
 
 /// Devices by their names. Of several with one name the first counts.
-#[derive(Drop)]
 pub struct Devices<'a> {
     pub folder: &'a [Loaded],
     pub names: NameIndex,
     pub firsts: Vec<&'a Loaded>,
+}
+
+impl<'a> Drop for Devices<'a> {
+    fn drop(self) {
+        let Devices {
+            folder: _,
+            names: _,
+            firsts: _,
+        } = self;
+    }
 }
 
 impl<'a> Devices<'a> {

@@ -24,6 +24,7 @@ ghost use Rattle.place_checks.specs.Findings.{
 ghost use Rattle.place_checks.specs.Index.{place_in, AreNets};
 ghost use Rattle.place_checks.specs.Sights.{seen, pair_of};
 
+use crate::finding::tell;
 use crate::nearest::near_in;
 use crate::nets::Nets;
 use crate::place::{PlaceRef, copy_place, place_at};
@@ -50,8 +51,8 @@ fn see<'a>(nets: Nets<'_, 'a>, line: u32, place: PlaceRef<'a>) -> SeenPlace<'a>
     SeenPlace {
         line,
         place,
-        old: nets.old.interface(place),
-        new: nets.new.interface(place),
+        old: nets.old.devices.interface(place),
+        new: nets.new.devices.interface(place),
     }
 }
 
@@ -94,12 +95,14 @@ fn check_missing(
         return Ok(());
     }
     let near = nearest(alloc, nets, place.place)?;
-    found.push(PlaceFinding::Missing {
-        line: place.line,
-        place: copy_place(alloc, place.place)?,
-        near,
-    })?;
-    Ok(())
+    tell(
+        found,
+        PlaceFinding::Missing {
+            line: place.line,
+            place: copy_place(alloc, place.place)?,
+            near,
+        },
+    )
 }
 
 /// Whether the interface is there and shut.
@@ -124,12 +127,14 @@ fn check_shut(
     let Some(networks) = networks_in(judged, is_shut(place.old), is_shut(place.new)) else {
         return Ok(());
     };
-    found.push(PlaceFinding::Shut {
-        line: place.line,
-        place: copy_place(alloc, place.place)?,
-        networks,
-    })?;
-    Ok(())
+    tell(
+        found,
+        PlaceFinding::Shut {
+            line: place.line,
+            place: copy_place(alloc, place.place)?,
+            networks,
+        },
+    )
 }
 
 /// Whether the interface is there, isn't shut, and has no address.
@@ -154,12 +159,14 @@ fn check_bare(
     let Some(networks) = networks_in(judged, is_bare(place.old), is_bare(place.new)) else {
         return Ok(());
     };
-    found.push(PlaceFinding::NoAddress {
-        line: place.line,
-        place: copy_place(alloc, place.place)?,
-        networks,
-    })?;
-    Ok(())
+    tell(
+        found,
+        PlaceFinding::NoAddress {
+            line: place.line,
+            place: copy_place(alloc, place.place)?,
+            networks,
+        },
+    )
 }
 
 /// Whether the subnets are one.
@@ -240,13 +247,15 @@ fn check_apart(
     let Some(networks) = networks_in(judged, in_old, in_new) else {
         return Ok(());
     };
-    found.push(PlaceFinding::Apart {
-        line: place.line,
-        place: copy_place(alloc, place.place)?,
-        first: copy_place(alloc, first.place)?,
-        networks,
-    })?;
-    Ok(())
+    tell(
+        found,
+        PlaceFinding::Apart {
+            line: place.line,
+            place: copy_place(alloc, place.place)?,
+            first: copy_place(alloc, first.place)?,
+            networks,
+        },
+    )
 }
 
 /// What is wrong with an end of a line, beside the first one.

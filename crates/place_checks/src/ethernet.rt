@@ -99,10 +99,16 @@ fn are_joined(nets: Nets, place: PlaceRef, other: PlaceRef) -> bool
     ensures { result ≡ are_joined (pair_of nets.entry) (place_in place.entry) (place_in other.entry) }
 {
     let in_old = nets.judged != Networks::New
-        && share_spare(nets.old.interface(place), nets.old.interface(other));
+        && share_spare(
+            nets.old.devices.interface(place),
+            nets.old.devices.interface(other),
+        );
     in_old
         || nets.judged != Networks::Old
-            && share_spare(nets.new.interface(place), nets.new.interface(other))
+            && share_spare(
+                nets.new.devices.interface(place),
+                nets.new.devices.interface(other),
+            )
 }
 
 fn has_both(nets: Nets, ends: &[(Text, Text)]) -> bool

@@ -1,6 +1,7 @@
 //! Findings about the links of networks, and in which of the networks each is so.
+ghost use Rattle.std.specs.Prelude.{◌≡◌, ◌++◌, ◌∷◌, [], OnOk};
 
-use net_types::Text;
+use net_types::{NoMemory, Text};
 
 /// The networks in which something is so, of those that are judged.
 #[derive(Clone, Copy, Debug, PartialEq, Eq)]
@@ -13,7 +14,6 @@ pub enum Networks {
 /// What is wrong with the links of networks, though no rule refuses it.
 ///
 /// A place is the names of a device and of an interface, and a line is a line of the link table, from 1.
-#[derive(Drop)]
 pub enum PlaceFinding {
     /// A line names a place that neither network has, so that what enters or arrives there is dropped.
     Missing {
@@ -50,4 +50,45 @@ pub enum PlaceFinding {
         other: (Text, Text),
         networks: Networks,
     },
+}
+
+impl Drop for PlaceFinding {
+    fn drop(self) {
+        match self {
+            PlaceFinding::Missing {
+                line: _,
+                place: _,
+                near: _,
+            } => {}
+            PlaceFinding::Shut {
+                line: _,
+                place: _,
+                networks: _,
+            } => {}
+            PlaceFinding::NoAddress {
+                line: _,
+                place: _,
+                networks: _,
+            } => {}
+            PlaceFinding::Apart {
+                line: _,
+                place: _,
+                first: _,
+                networks: _,
+            } => {}
+            PlaceFinding::Unlinked {
+                place: _,
+                other: _,
+                networks: _,
+            } => {}
+        }
+    }
+}
+
+/// Adds a finding.
+pub(crate) fn tell(found: &mut Vec<PlaceFinding>, finding: PlaceFinding) -> Result<(), NoMemory>
+    ensures { OnOk result (found.new.items ≡ found.old.items ++ finding ∷ []) }
+{
+    found.push(finding)?;
+    Ok(())
 }

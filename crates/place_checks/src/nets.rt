@@ -1,22 +1,27 @@
 //! Networks as they are looked up: by devices, and by subnets.
 ghost use Rattle.std.specs.Prelude.{◌≡◌, IfOk};
-ghost use Rattle.std.specs.Option.{option_copied};
-ghost use Rattle.topo_links.specs.Check.{device_named, interface_at};
-ghost use Rattle.place_checks.specs.Index.{place_in, IsNet};
+ghost use Rattle.place_checks.specs.Index.{IsNet};
 ghost use Rattle.place_checks.specs.Sights.{folder_of};
 
 use crate::Networks;
 use crate::devices::Devices;
-use crate::place::PlaceRef;
 use crate::subnets::SubnetIndex;
-use net_types::{Interface, Loaded, NoMemory, Text};
+use net_types::{Loaded, NoMemory};
 use std::alloc::Global;
 
 /// A network by its devices and its subnets.
-#[derive(Drop)]
 pub struct Net<'a> {
     pub devices: Devices<'a>,
     pub subnets: SubnetIndex<'a>,
+}
+
+impl<'a> Drop for Net<'a> {
+    fn drop(self) {
+        let Net {
+            devices: _,
+            subnets: _,
+        } = self;
+    }
 }
 
 /// Two networks, and which of the two is judged.
@@ -37,28 +42,5 @@ impl<'a> Net<'a> {
             devices: Devices::of(alloc, folder)?,
             subnets: SubnetIndex::of(alloc, folder)?,
         })
-    }
-
-    /// The folder of the network.
-    pub fn folder(&self) -> &'a [Loaded]
-        ensures { result.now ≡ folder_of self.now }
-    {
-        self.devices.folder
-    }
-
-    /// The device of this name.
-    pub fn device(&self, name: &Text) -> Option<&'a Loaded>
-        requires { IsNet self.now }
-        ensures { option_copied result ≡ device_named (folder_of self.now) name.now }
-    {
-        self.devices.get(name)
-    }
-
-    /// The interface at a place.
-    pub fn interface(&self, place: PlaceRef) -> Option<&'a Interface>
-        requires { IsNet self.now }
-        ensures { option_copied result ≡ interface_at (folder_of self.now) (place_in place.entry) }
-    {
-        self.devices.interface(place)
     }
 }

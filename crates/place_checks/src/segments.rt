@@ -9,10 +9,15 @@ use std::alloc::Global;
 use topo_links::{LinkKind, LinkLine};
 
 /// The line of the segment that an end is on, by the names of its device and its interface.
-#[derive(Drop)]
 pub struct Segments<'a> {
     pub table: &'a [LinkLine],
     pub lines: IndexMap<(Vec<u8>, Vec<u8>), u32>,
+}
+
+impl<'a> Drop for Segments<'a> {
+    fn drop(self) {
+        let Segments { table: _, lines: _ } = self;
+    }
 }
 
 /// A copy of the names of a place, as a key.

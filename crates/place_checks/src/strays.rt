@@ -1,9 +1,10 @@
 //! Next hops on lans that no end has.
-ghost use Rattle.std.specs.Prelude.{◌≡◌, ◌++◌, IfOk, OnOk, filter, flat_map, map};
+ghost use Rattle.std.specs.Prelude.{◌≡◌, ◌++◌, ◌∷◌, [], Some, IfOk, OnOk, filter, flat_map, map};
 ghost use Rattle.std.specs.List.{list_any};
 ghost use Rattle.std.specs.Option.{option_copied};
 ghost use Rattle.net_types.specs.Routes.{live_subnets};
 ghost use Rattle.topo_links.specs.Check.{has_value, device_named, interface_at};
+ghost use Rattle.place_checks.specs.Findings.{judges_new};
 ghost use Rattle.place_checks.specs.Index.{place_in, IsNet, AreNets};
 ghost use Rattle.place_checks.specs.Sights.{folder_of, pair_of};
 ghost use Rattle.place_checks.specs.Strays.{
@@ -14,8 +15,11 @@ ghost use Rattle.place_checks.specs.Strays.{
   has_own,
   end_has,
   is_stray,
+  strays_of,
   strays,
   if_judged,
+  stray,
+  networks_with,
   stray_in_old,
   stray_in_new,
   is_added,
@@ -30,14 +34,13 @@ use crate::Networks;
 use crate::nets::{Net, Nets};
 use crate::place::{PlaceRef, copy_place, place_at};
 use indexmap::IndexSet;
-use net_types::{Interface, NoMemory, Route, RouteExit, Subnet, Text};
+use net_types::{Interface, Loaded, NoMemory, Route, RouteExit, Subnet, Text};
 use net_view::{has_address, holds, is_enabled, same_text};
 use std::alloc::Global;
 use topo_links::{LinkKind, LinkLine};
 
 /// A next hop over an IP-enabled end of a lan that no end of the lan has, shut or not: what is sent there is delivered out
 /// of the interface, as if it left the network.
-#[derive(Drop)]
 pub struct StrayNext {
     /// The line of the lan in the link table, from 1.
     pub line: u32,
@@ -46,6 +49,17 @@ pub struct StrayNext {
     /// The next hop of a static route of the device: an address in a subnet of the interface, or one beside its name.
     pub next: u32,
     pub networks: Networks,
+}
+
+impl Drop for StrayNext {
+    fn drop(self) {
+        let StrayNext {
+            line: _,
+            place: _,
+            next: _,
+            networks: _,
+        } = self;
+    }
 }
 
 /// Whether one of the subnets holds the address.
@@ -134,7 +148,7 @@ fn any_has(net: &Net, ends: &[(Text, Text)], address: u32) -> bool
     ensures { result ≡ list_any (end_has (folder_of net.now) address) ends.now }
 {
     for end in ends {
-        if has_own(address, net.interface(place_at(end))) {
+        if has_own(address, net.devices.interface(place_at(end))) {
             return true;
         }
     }
@@ -153,11 +167,30 @@ fn without_end(
 {
     let mut strays = Vec::new(alloc);
     for next in nexts {
-        if !any_has(net, ends, *next) {
-            strays.push(*next)?;
+        if any_has(net, ends, *next) {
+            continue;
         }
+        strays.push(*next)?;
     }
     Ok(strays)
+}
+
+/// The next hops over an interface of a device that none of these ends has; over one that isn't IP-enabled nothing is sent.
+fn strays_of(
+    alloc: Global,
+    net: &Net,
+    ends: &[(Text, Text)],
+    device: &Loaded,
+    interface: &Interface,
+) -> Result<Vec<u32>, NoMemory>
+    requires { IsNet net.now }
+    ensures { IfOk result (λ found. found.items ≡ strays_of (folder_of net.now) ends.now (Some device.now) (Some interface.now)) }
+{
+    if !is_enabled(interface) {
+        return Ok(Vec::new(alloc));
+    }
+    let nexts = nexts_over(alloc, interface, device.config.routes.as_slice())?;
+    without_end(alloc, net, ends, nexts.as_slice())
 }
 
 /// The next hops over an end of a lan that none of its ends has, where the network is judged.
@@ -174,17 +207,13 @@ fn strays(
     if !judged {
         return Ok(Vec::new(alloc));
     }
-    let Some(device) = net.device(place.device) else {
+    let Some(device) = net.devices.get(place.device) else {
         return Ok(Vec::new(alloc));
     };
-    let Some(interface) = net.interface(place) else {
-        return Ok(Vec::new(alloc));
-    };
-    if !is_enabled(interface) {
-        return Ok(Vec::new(alloc));
+    match net.devices.interface(place) {
+        None => Ok(Vec::new(alloc)),
+        Some(interface) => strays_of(alloc, net, ends, device, interface),
     }
-    let nexts = nexts_over(alloc, interface, device.config.routes.as_slice())?;
-    without_end(alloc, net, ends, nexts.as_slice())
 }
 
 /// Whether it is one of the addresses.
@@ -192,6 +221,38 @@ fn has_value(address: u32, addresses: &[u32]) -> bool
     ensures { result ≡ has_value address addresses.now }
 {
     addresses.iter().any(|a| address == *a)
+}
+
+/// Tells of a next hop.
+fn tell(
+    alloc: Global,
+    line: u32,
+    place: PlaceRef,
+    next: u32,
+    networks: Networks,
+    found: &mut Vec<StrayNext>,
+) -> Result<(), NoMemory>
+    ensures { OnOk result (found.new.items ≡ found.old.items ++ stray line (place_in place.entry) next networks ∷ []) }
+{
+    let place = copy_place(alloc, place)?;
+    found.push(StrayNext {
+        line,
+        place,
+        next,
+        networks,
+    })?;
+    Ok(())
+}
+
+/// The networks that have a next hop of the old one.
+fn networks_with(next: u32, new: &[u32]) -> Networks
+    ensures { result ≡ networks_with new.now next }
+{
+    if has_value(next, new) {
+        Networks::Both
+    } else {
+        Networks::Old
+    }
 }
 
 /// Tells of those of the old network, and whether the new one has them too.
@@ -206,17 +267,7 @@ fn tell_old(
     ensures { OnOk result (found.new.items ≡ found.old.items ++ map (stray_in_old line (place_in place.entry) new.now) old.now) }
 {
     for next in old {
-        let networks = if has_value(*next, new) {
-            Networks::Both
-        } else {
-            Networks::Old
-        };
-        found.push(StrayNext {
-            line,
-            place: copy_place(alloc, place)?,
-            next: *next,
-            networks,
-        })?;
+        tell(alloc, line, place, *next, networks_with(*next, new), found)?;
     }
     Ok(())
 }
@@ -236,14 +287,41 @@ fn tell_new(
         if has_value(*next, old) {
             continue;
         }
-        found.push(StrayNext {
-            line,
-            place: copy_place(alloc, place)?,
-            next: *next,
-            networks: Networks::New,
-        })?;
+        tell(alloc, line, place, *next, Networks::New, found)?;
     }
     Ok(())
+}
+
+/// Tells of the next hops over an end, those of the old network first.
+fn tell_both(
+    alloc: Global,
+    line: u32,
+    place: PlaceRef,
+    old: &[u32],
+    new: &[u32],
+    found: &mut Vec<StrayNext>,
+) -> Result<(), NoMemory>
+    ensures { OnOk result (found.new.items ≡ found.old.items ++ strays_in line (place_in place.entry) old.now new.now) }
+{
+    tell_old(alloc, line, place, old, new, found)?;
+    tell_new(alloc, line, place, old, new, found)
+}
+
+/// The next hops over an end, beside those of the old network.
+fn check_beside(
+    alloc: Global,
+    nets: Nets,
+    line: &LinkLine,
+    place: PlaceRef,
+    old: &[u32],
+    found: &mut Vec<StrayNext>,
+) -> Result<(), NoMemory>
+    requires { AreNets nets }
+    ensures { OnOk result (found.new.items ≡ found.old.items ++ strays_in line.now.line (place_in place.entry) old.now (if_judged (judges_new nets.entry.judged) (strays (folder_of nets.entry.new.now) line.now.ends (place_in place.entry)))) }
+{
+    let judged = nets.judged != Networks::Old;
+    let new = strays(alloc, judged, nets.new, line.ends.as_slice(), place)?;
+    tell_both(alloc, line.line, place, old, &new, found)
 }
 
 /// The next hops over an end.
@@ -257,11 +335,9 @@ fn check_end(
     requires { AreNets nets }
     ensures { OnOk result (found.new.items ≡ found.old.items ++ end_strays (pair_of nets.entry) line.now (place_in place.entry)) }
 {
-    let ends = line.ends.as_slice();
-    let old = strays(alloc, nets.judged != Networks::New, nets.old, ends, place)?;
-    let new = strays(alloc, nets.judged != Networks::Old, nets.new, ends, place)?;
-    tell_old(alloc, line.line, place, &old, &new, found)?;
-    tell_new(alloc, line.line, place, &old, &new, found)
+    let judged = nets.judged != Networks::New;
+    let old = strays(alloc, judged, nets.old, line.ends.as_slice(), place)?;
+    check_beside(alloc, nets, line, place, &old, found)
 }
 
 /// The ends of a lan.

@@ -8,9 +8,14 @@ use net_types::{Interface, Loaded, NoMemory, Subnet, first_bits};
 use std::alloc::Global;
 
 /// The first place of each subnet, by the first bits of its addresses, as a number, and its length.
-#[derive(Drop)]
 pub struct SubnetIndex<'a> {
     pub firsts: IndexMap<(u32, u8), PlaceRef<'a>>,
+}
+
+impl<'a> Drop for SubnetIndex<'a> {
+    fn drop(self) {
+        let SubnetIndex { firsts: _ } = self;
+    }
 }
 
 impl<'a> SubnetIndex<'a> {

@@ -1,12 +1,14 @@
 //! Interfaces of one subnet that no segment joins.
-ghost use Rattle.std.specs.Prelude.{◌≡◌, ◌++◌, IfOk, OnOk, filter_map, flat_map, option_map};
+ghost use Rattle.std.specs.Prelude.{◌≡◌, ◌++◌, ◌∷◌, [], IfOk, OnOk, filter_map, flat_map, option_map};
 ghost use Rattle.net_types.specs.Routes.{live_subnets};
 ghost use Rattle.topo_links.specs.Table.{first};
 ghost use Rattle.place_checks.specs.Findings.{
   other_if,
+  unlinked_by,
   unlinked_findings,
+  told_findings,
+  device_told,
   device_unlinked,
-  added_findings,
   device_added,
 };
 ghost use Rattle.place_checks.specs.Homes.{is_strange, subnet_other, interface_other, other_in};
@@ -14,6 +16,7 @@ ghost use Rattle.place_checks.specs.Index.{place_in, IsNet, AreNets, AreSegments
 ghost use Rattle.place_checks.specs.Nearest.{place_of};
 ghost use Rattle.place_checks.specs.Sights.{folder_of, pair_of};
 
+use crate::finding::tell;
 use crate::nets::{Net, Nets};
 use crate::place::{PlaceRef, copy_place};
 use crate::segments::Segments;
@@ -122,10 +125,50 @@ fn other_if<'a>(
     if !judged {
         return Ok(None);
     }
-    let Some(interface) = net.interface(place) else {
+    let Some(interface) = net.devices.interface(place) else {
         return Ok(None);
     };
     interface_other(alloc, net, segments, place, interface)
+}
+
+/// Tells of a place and the other one of its subnet.
+fn tell_other(
+    alloc: Global,
+    place: PlaceRef,
+    other: PlaceRef,
+    networks: Networks,
+    found: &mut Vec<PlaceFinding>,
+) -> Result<(), NoMemory>
+    ensures { OnOk result (found.new.items ≡ found.old.items ++ PlaceFinding.Unlinked (place_in place.entry) (place_in other.entry) networks ∷ []) }
+{
+    let place = copy_place(alloc, place)?;
+    let other = copy_place(alloc, other)?;
+    tell(
+        found,
+        PlaceFinding::Unlinked {
+            place,
+            other,
+            networks,
+        },
+    )
+}
+
+/// Tells of a place and the other one of its subnet in each network, if there is one.
+fn tell_others(
+    alloc: Global,
+    place: PlaceRef,
+    old: Option<PlaceRef>,
+    new: Option<PlaceRef>,
+    found: &mut Vec<PlaceFinding>,
+) -> Result<(), NoMemory>
+    ensures { OnOk result (found.new.items ≡ found.old.items ++ unlinked_by (place_in place.entry) (option_map place_in old.entry) (option_map place_in new.entry)) }
+{
+    match (old, new) {
+        (None, None) => Ok(()),
+        (Some(other), None) => tell_other(alloc, place, other, Networks::Old, found),
+        (None, Some(other)) => tell_other(alloc, place, other, Networks::New, found),
+        (Some(_), Some(other)) => tell_other(alloc, place, other, Networks::Both, found),
+    }
 }
 
 /// Tells of a place that isn't joined with the first one of its subnet.
@@ -154,18 +197,7 @@ fn check_place(
         segments,
         place,
     )?;
-    let (other, networks) = match (old, new) {
-        (None, None) => return Ok(()),
-        (Some(other), None) => (other, Networks::Old),
-        (None, Some(other)) => (other, Networks::New),
-        (Some(_), Some(other)) => (other, Networks::Both),
-    };
-    found.push(PlaceFinding::Unlinked {
-        place: copy_place(alloc, place)?,
-        other: copy_place(alloc, other)?,
-        networks,
-    })?;
-    Ok(())
+    tell_others(alloc, place, old, new, found)
 }
 
 /// The place of an interface.
@@ -178,90 +210,66 @@ fn place_of<'a>(device: &'a Loaded, interface: &'a Interface) -> PlaceRef<'a>
     }
 }
 
-/// The interfaces of a device of the old network.
-fn check_device(
+/// A place; of one of the new network, where the old one doesn't have it.
+fn check_told(
     alloc: Global,
     nets: Nets,
     segments: &Segments,
-    device: &Loaded,
-    found: &mut Vec<PlaceFinding>,
-) -> Result<(), NoMemory>
-    requires nets { AreNets nets }
-    requires segments { AreSegments segments.now }
-    ensures { OnOk result (found.new.items ≡ found.old.items ++ device_unlinked (pair_of nets.entry) segments.now.table.now device.now) }
-{
-    for interface in device.config.interfaces.as_slice() {
-        check_place(alloc, nets, segments, place_of(device, interface), found)?;
-    }
-    Ok(())
-}
-
-/// The places of the old network.
-fn check_old(
-    alloc: Global,
-    nets: Nets,
-    segments: &Segments,
-    found: &mut Vec<PlaceFinding>,
-) -> Result<(), NoMemory>
-    requires nets { AreNets nets }
-    requires segments { AreSegments segments.now }
-    ensures { OnOk result (found.new.items ≡ found.old.items ++ flat_map (device_unlinked (pair_of nets.entry) segments.now.table.now) (folder_of nets.entry.old.now)) }
-{
-    for device in nets.old.folder() {
-        check_device(alloc, nets, segments, device, found)?;
-    }
-    Ok(())
-}
-
-/// An interface of the new network, where the old one doesn't have it.
-fn check_added(
-    alloc: Global,
-    nets: Nets,
-    segments: &Segments,
+    added: bool,
     place: PlaceRef,
     found: &mut Vec<PlaceFinding>,
 ) -> Result<(), NoMemory>
     requires nets { AreNets nets }
     requires segments { AreSegments segments.now }
-    ensures { OnOk result (found.new.items ≡ found.old.items ++ added_findings (pair_of nets.entry) segments.now.table.now (place_in place.entry)) }
+    ensures { OnOk result (found.new.items ≡ found.old.items ++ told_findings added (pair_of nets.entry) segments.now.table.now (place_in place.entry)) }
 {
-    if nets.old.interface(place).is_some() {
+    if added && nets.old.devices.interface(place).is_some() {
         return Ok(());
     }
     check_place(alloc, nets, segments, place, found)
 }
 
-/// The interfaces of a device of the new network that the old one doesn't have.
-fn check_new_device(
+/// The interfaces of a device.
+fn check_device(
     alloc: Global,
     nets: Nets,
     segments: &Segments,
+    added: bool,
     device: &Loaded,
     found: &mut Vec<PlaceFinding>,
 ) -> Result<(), NoMemory>
     requires nets { AreNets nets }
     requires segments { AreSegments segments.now }
-    ensures { OnOk result (found.new.items ≡ found.old.items ++ device_added (pair_of nets.entry) segments.now.table.now device.now) }
+    ensures { OnOk result (found.new.items ≡ found.old.items ++ device_told added (pair_of nets.entry) segments.now.table.now device.now) }
 {
     for interface in device.config.interfaces.as_slice() {
-        check_added(alloc, nets, segments, place_of(device, interface), found)?;
+        check_told(
+            alloc,
+            nets,
+            segments,
+            added,
+            place_of(device, interface),
+            found,
+        )?;
     }
     Ok(())
 }
 
-/// The places that the new network alone has.
-fn check_new(
+/// The devices of a network.
+fn check_folder(
     alloc: Global,
     nets: Nets,
     segments: &Segments,
+    added: bool,
+    folder: &[Loaded],
     found: &mut Vec<PlaceFinding>,
 ) -> Result<(), NoMemory>
     requires nets { AreNets nets }
     requires segments { AreSegments segments.now }
-    ensures { OnOk result (found.new.items ≡ found.old.items ++ flat_map (device_added (pair_of nets.entry) segments.now.table.now) (folder_of nets.entry.new.now)) }
+    ensures { OnOk result (found.new.items ≡ found.old.items ++ flat_map (device_told added (pair_of nets.entry) segments.now.table.now) folder.now) }
 {
-    for device in nets.new.folder() {
-        check_new_device(alloc, nets, segments, device, found)?;
+    for device in folder {
+        check_device(alloc, nets, segments, added, device, found)?;
     }
     Ok(())
 }
@@ -277,6 +285,8 @@ pub fn check_nets(
     requires segments { AreSegments segments.now }
     ensures { OnOk result (found.new.items ≡ found.old.items ++ flat_map (device_unlinked (pair_of nets.entry) segments.now.table.now) (folder_of nets.entry.old.now) ++ flat_map (device_added (pair_of nets.entry) segments.now.table.now) (folder_of nets.entry.new.now)) }
 {
-    check_old(alloc, nets, segments, found)?;
-    check_new(alloc, nets, segments, found)
+    let old = nets.old;
+    let new = nets.new;
+    check_folder(alloc, nets, segments, false, old.devices.folder, found)?;
+    check_folder(alloc, nets, segments, true, new.devices.folder, found)
 }

@@ -1,8 +1,0 @@
-use Rattle.std.proofs.Common.{◌≡◌, ◌++◌, take}
-use Rattle.std.specs.Prelude.{flat_map}
-use Rattle.place_checks.specs.Findings.{device_added}
-use Rattle.place_checks.specs.Sights.{pair_of}
-use Rattle.place_checks.proofs.unlinked.check_new.Given as goal
-
-abbrev pub invariant-loop-device : goal.invariant-loop-device
-invariant-loop-device l = l.found.items ≡ l.initial.found.items ++ flat_map (device_added (pair_of l.nets) l.segments.table.now) (take l.device-index l.device-items)
