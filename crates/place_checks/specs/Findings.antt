@@ -138,38 +138,24 @@ abbrev pub unlinked_findings : Pair → List LinkLine → End → List PlaceFind
 unlinked_findings p ls e =
     unlinked_by e (other_if (judges_old p.judged) (other_in ls p.old e)) (other_if (judges_new p.judged) (other_in ls p.new e))
 
-abbrev pub interface_unlinked : Pair → List LinkLine → Loaded → Interface → List PlaceFinding
-interface_unlinked p ls l i = unlinked_findings p ls (place_of l i)
-
-abbrev pub device_unlinked : Pair → List LinkLine → Loaded → List PlaceFinding
-device_unlinked p ls l = flat_map (interface_unlinked p ls l) l.config.interfaces
-
 -- the old network doesn't have the place
 abbrev pub is_added : Pair → End → Bool
 is_added p e = not (is_some (interface_at p.old e))
 
--- the same of the places that the new network alone has
-abbrev pub added_findings : Pair → List LinkLine → End → List PlaceFinding
-added_findings p ls e = if is_added p e then unlinked_findings p ls e else []
+-- of a place of the old network, or of one of the new network that is told of where the old one doesn't have it
+abbrev pub place_unlinked : Bool → Pair → List LinkLine → End → List PlaceFinding
+place_unlinked added p ls e = if not added || is_added p e then unlinked_findings p ls e else []
 
-abbrev pub interface_added : Pair → List LinkLine → Loaded → Interface → List PlaceFinding
-interface_added p ls l i = added_findings p ls (place_of l i)
+abbrev pub interface_unlinked : Bool → Pair → List LinkLine → Loaded → Interface → List PlaceFinding
+interface_unlinked added p ls l i = place_unlinked added p ls (place_of l i)
 
-abbrev pub device_added : Pair → List LinkLine → Loaded → List PlaceFinding
-device_added p ls l = flat_map (interface_added p ls l) l.config.interfaces
-
--- both kinds by one definition: those of the new network where the old one doesn't have the place, or all
-abbrev pub told_findings : Bool → Pair → List LinkLine → End → List PlaceFinding
-told_findings added p ls e = if not added || is_added p e then unlinked_findings p ls e else []
-
-abbrev pub interface_told : Bool → Pair → List LinkLine → Loaded → Interface → List PlaceFinding
-interface_told added p ls l i = told_findings added p ls (place_of l i)
-
-abbrev pub device_told : Bool → Pair → List LinkLine → Loaded → List PlaceFinding
-device_told added p ls l = flat_map (interface_told added p ls l) l.config.interfaces
+abbrev pub device_unlinked : Bool → Pair → List LinkLine → Loaded → List PlaceFinding
+device_unlinked added p ls l = flat_map (interface_unlinked added p ls l) l.config.interfaces
 
 -- ---- all together
 
 abbrev pub place_findings : Pair → List LinkLine → List PlaceFinding
 place_findings p ls =
-    flat_map (line_findings p) ls ++ flat_map (device_unlinked p ls) p.old ++ flat_map (device_added p ls) p.new
+    flat_map (line_findings p) ls
+    ++ flat_map (device_unlinked false p ls) p.old
+    ++ flat_map (device_unlinked true p ls) p.new

@@ -1,7 +1,7 @@
 //! All that is wrong with the links of networks.
-ghost use Rattle.std.specs.Prelude.{◌≡◌, ◌++◌, IfOk, OnOk, flat_map};
+ghost use Rattle.std.specs.Prelude.{◌≡◌, ◌++◌, true, false, IfOk, OnOk, flat_map};
 ghost use Rattle.place_checks.specs.Ethernet.{ethernet_links};
-ghost use Rattle.place_checks.specs.Findings.{device_added, device_unlinked, line_findings, place_findings};
+ghost use Rattle.place_checks.specs.Findings.{device_unlinked, line_findings, place_findings};
 ghost use Rattle.place_checks.specs.Index.{IsNet, AreNets};
 ghost use Rattle.place_checks.specs.Sights.{folder_of, pair_of, folders_of};
 ghost use Rattle.place_checks.specs.Strays.{stray_findings};
@@ -118,7 +118,7 @@ fn check_unlinked(
     found: &mut Vec<PlaceFinding>,
 ) -> Result<(), NoMemory>
     requires { AreNets nets }
-    ensures { OnOk result (found.new.items ≡ found.old.items ++ flat_map (device_unlinked (pair_of nets.entry) lines.now) (pair_of nets.entry).old ++ flat_map (device_added (pair_of nets.entry) lines.now) (pair_of nets.entry).new) }
+    ensures { OnOk result (found.new.items ≡ found.old.items ++ flat_map (device_unlinked false (pair_of nets.entry) lines.now) (pair_of nets.entry).old ++ flat_map (device_unlinked true (pair_of nets.entry) lines.now) (pair_of nets.entry).new) }
 {
     let segments = Segments::of(alloc, lines)?;
     check_nets(alloc, nets, &segments, found)

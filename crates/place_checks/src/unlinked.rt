@@ -1,15 +1,12 @@
 //! Interfaces of one subnet that no segment joins.
-ghost use Rattle.std.specs.Prelude.{◌≡◌, ◌++◌, ◌∷◌, [], IfOk, OnOk, filter_map, flat_map, option_map};
+ghost use Rattle.std.specs.Prelude.{◌≡◌, ◌++◌, ◌∷◌, [], true, false, IfOk, OnOk, filter_map, flat_map, option_map};
 ghost use Rattle.net_types.specs.Routes.{live_subnets};
 ghost use Rattle.topo_links.specs.Table.{first};
 ghost use Rattle.place_checks.specs.Findings.{
   other_if,
   unlinked_by,
-  unlinked_findings,
-  told_findings,
-  device_told,
+  place_unlinked,
   device_unlinked,
-  device_added,
 };
 ghost use Rattle.place_checks.specs.Homes.{is_strange, subnet_other, interface_other, other_in};
 ghost use Rattle.place_checks.specs.Index.{place_in, IsNet, AreNets, AreSegments};
@@ -171,18 +168,22 @@ fn tell_others(
     }
 }
 
-/// Tells of a place that isn't joined with the first one of its subnet.
+/// Tells of a place that isn't joined with the first one of its subnet; of one of the new network, where the old one doesn't have it.
 fn check_place(
     alloc: Global,
     nets: Nets,
     segments: &Segments,
+    added: bool,
     place: PlaceRef,
     found: &mut Vec<PlaceFinding>,
 ) -> Result<(), NoMemory>
     requires nets { AreNets nets }
     requires segments { AreSegments segments.now }
-    ensures { OnOk result (found.new.items ≡ found.old.items ++ unlinked_findings (pair_of nets.entry) segments.now.table.now (place_in place.entry)) }
+    ensures { OnOk result (found.new.items ≡ found.old.items ++ place_unlinked added (pair_of nets.entry) segments.now.table.now (place_in place.entry)) }
 {
+    if added && nets.old.devices.interface(place).is_some() {
+        return Ok(());
+    }
     let old = other_if(
         alloc,
         nets.judged != Networks::New,
@@ -210,25 +211,6 @@ fn place_of<'a>(device: &'a Loaded, interface: &'a Interface) -> PlaceRef<'a>
     }
 }
 
-/// A place; of one of the new network, where the old one doesn't have it.
-fn check_told(
-    alloc: Global,
-    nets: Nets,
-    segments: &Segments,
-    added: bool,
-    place: PlaceRef,
-    found: &mut Vec<PlaceFinding>,
-) -> Result<(), NoMemory>
-    requires nets { AreNets nets }
-    requires segments { AreSegments segments.now }
-    ensures { OnOk result (found.new.items ≡ found.old.items ++ told_findings added (pair_of nets.entry) segments.now.table.now (place_in place.entry)) }
-{
-    if added && nets.old.devices.interface(place).is_some() {
-        return Ok(());
-    }
-    check_place(alloc, nets, segments, place, found)
-}
-
 /// The interfaces of a device.
 fn check_device(
     alloc: Global,
@@ -240,10 +222,10 @@ fn check_device(
 ) -> Result<(), NoMemory>
     requires nets { AreNets nets }
     requires segments { AreSegments segments.now }
-    ensures { OnOk result (found.new.items ≡ found.old.items ++ device_told added (pair_of nets.entry) segments.now.table.now device.now) }
+    ensures { OnOk result (found.new.items ≡ found.old.items ++ device_unlinked added (pair_of nets.entry) segments.now.table.now device.now) }
 {
     for interface in device.config.interfaces.as_slice() {
-        check_told(
+        check_place(
             alloc,
             nets,
             segments,
@@ -266,7 +248,7 @@ fn check_folder(
 ) -> Result<(), NoMemory>
     requires nets { AreNets nets }
     requires segments { AreSegments segments.now }
-    ensures { OnOk result (found.new.items ≡ found.old.items ++ flat_map (device_told added (pair_of nets.entry) segments.now.table.now) folder.now) }
+    ensures { OnOk result (found.new.items ≡ found.old.items ++ flat_map (device_unlinked added (pair_of nets.entry) segments.now.table.now) folder.now) }
 {
     for device in folder {
         check_device(alloc, nets, segments, added, device, found)?;
@@ -283,7 +265,7 @@ pub fn check_nets(
 ) -> Result<(), NoMemory>
     requires nets { AreNets nets }
     requires segments { AreSegments segments.now }
-    ensures { OnOk result (found.new.items ≡ found.old.items ++ flat_map (device_unlinked (pair_of nets.entry) segments.now.table.now) (folder_of nets.entry.old.now) ++ flat_map (device_added (pair_of nets.entry) segments.now.table.now) (folder_of nets.entry.new.now)) }
+    ensures { OnOk result (found.new.items ≡ found.old.items ++ flat_map (device_unlinked false (pair_of nets.entry) segments.now.table.now) (folder_of nets.entry.old.now) ++ flat_map (device_unlinked true (pair_of nets.entry) segments.now.table.now) (folder_of nets.entry.new.now)) }
 {
     let old = nets.old;
     let new = nets.new;
