@@ -14,4 +14,5 @@ pub mod Style
 pub mod Script
 pub mod Markup
 pub mod Pages
+pub mod Parts
 pub mod Ways

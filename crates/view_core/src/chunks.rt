@@ -14,8 +14,6 @@ pub(crate) enum Chunk<'a> {
     Bytes(&'a [u8]),
     /// A number in decimal.
     Number(u64),
-    /// A count in decimal.
-    Count(u128),
     /// A part of a line of a table, in quotes.
     Quoted(&'a [u8]),
     /// A string of JSON.
@@ -38,7 +36,6 @@ fn append_chunk(out: &mut Vec<u8>, chunk: &Chunk) -> Result<(), NoMemory>
     match *chunk {
         Chunk::Bytes(bytes) => append(out, bytes),
         Chunk::Number(number) => append_number(out, number),
-        Chunk::Count(count) => append_number(out, count),
         Chunk::Quoted(text) => append_quoted(out, text),
         Chunk::String(text) => append_string(out, text),
     }

@@ -27,8 +27,11 @@ pub enum Part<'a> {
 }
 
 impl Sheet {
-    ghost use Rattle.std.specs.Prelude.{◌≡◌, ◌++◌, [], OnOk};
+    ghost use Rattle.std.specs.Prelude.{◌≡◌, ◌++◌, [], OnOk, decimal};
+    ghost use Rattle.std.specs.List.{flat_map};
+    ghost use Rattle.view_core.specs.Escape.{escape_of, escaped};
     ghost use Rattle.view_core.specs.Markup.{markup_text};
+    ghost use Rattle.view_core.specs.Parts.{line_byte, name_byte, part_text};
 
     /// Nothing yet.
     pub fn new(alloc: Global) -> Sheet
@@ -40,14 +43,18 @@ impl Sheet {
     }
 
     /// Adds parts, one after the other. Where memory runs out, the first of them may stand there.
-    pub fn parts(&mut self, parts: &[Part]) -> Result<(), NoMemory> {
+    pub fn parts(&mut self, parts: &[Part]) -> Result<(), NoMemory>
+        ensures { OnOk result (self.new.bytes.items ≡ self.old.bytes.items ++ flat_map part_text parts.now) }
+    {
         for part in parts {
             self.add(part)?;
         }
         Ok(())
     }
 
-    fn add(&mut self, part: &Part) -> Result<(), NoMemory> {
+    fn add(&mut self, part: &Part) -> Result<(), NoMemory>
+        ensures { OnOk result (self.new.bytes.items ≡ self.old.bytes.items ++ part_text part.now) }
+    {
         match *part {
             Part::Markup(markup) => self.markup(markup),
             Part::Number(number) => self.number(number),
@@ -65,13 +72,17 @@ impl Sheet {
     }
 
     /// Adds a number.
-    pub fn number(&mut self, number: u64) -> Result<(), NoMemory> {
+    pub fn number(&mut self, number: u64) -> Result<(), NoMemory>
+        ensures { OnOk result (self.new.bytes.items ≡ self.old.bytes.items ++ decimal number) }
+    {
         let mut buffer = Buffer::new();
         append_whole(&mut self.bytes, buffer.format(number).as_bytes())
     }
 
     /// Adds text: it is shown, and means nothing.
-    pub fn text(&mut self, text: &[u8]) -> Result<(), NoMemory> {
+    pub fn text(&mut self, text: &[u8]) -> Result<(), NoMemory>
+        ensures { OnOk result (self.new.bytes.items ≡ self.old.bytes.items ++ escaped text.now) }
+    {
         for b in text {
             self.byte(*b)?;
         }
@@ -79,26 +90,42 @@ impl Sheet {
     }
 
     /// Adds text whose lines stay lines.
-    pub fn lines(&mut self, text: &[u8]) -> Result<(), NoMemory> {
+    pub fn lines(&mut self, text: &[u8]) -> Result<(), NoMemory>
+        ensures { OnOk result (self.new.bytes.items ≡ self.old.bytes.items ++ flat_map line_byte text.now) }
+    {
         for b in text {
-            if *b == b'\n' {
-                self.markup(Markup::LineEnd)?;
-            } else {
-                self.byte(*b)?;
-            }
+            self.line_byte(*b)?;
         }
         Ok(())
     }
 
+    fn line_byte(&mut self, b: u8) -> Result<(), NoMemory>
+        ensures { OnOk result (self.new.bytes.items ≡ self.old.bytes.items ++ line_byte b) }
+    {
+        if b == b'\n' {
+            return self.markup(Markup::LineEnd);
+        }
+        self.byte(b)
+    }
+
     /// Adds text that may be broken behind a `/`.
-    pub fn name(&mut self, text: &[u8]) -> Result<(), NoMemory> {
+    pub fn name(&mut self, text: &[u8]) -> Result<(), NoMemory>
+        ensures { OnOk result (self.new.bytes.items ≡ self.old.bytes.items ++ flat_map name_byte text.now) }
+    {
         for b in text {
-            self.byte(*b)?;
-            if *b == b'/' {
-                self.markup(Markup::Break)?;
-            }
+            self.name_byte(*b)?;
         }
         Ok(())
+    }
+
+    fn name_byte(&mut self, b: u8) -> Result<(), NoMemory>
+        ensures { OnOk result (self.new.bytes.items ≡ self.old.bytes.items ++ name_byte b) }
+    {
+        if b == b'/' {
+            self.byte(b)?;
+            return self.markup(Markup::Break);
+        }
+        self.byte(b)
     }
 
     /// Adds another part.
@@ -117,7 +144,9 @@ impl Sheet {
     }
 
     /// Adds a byte of a text.
-    pub fn byte(&mut self, b: u8) -> Result<(), NoMemory> {
+    pub fn byte(&mut self, b: u8) -> Result<(), NoMemory>
+        ensures { OnOk result (self.new.bytes.items ≡ self.old.bytes.items ++ escape_of b) }
+    {
         append_byte(&mut self.bytes, b)
     }
 }
