@@ -8,10 +8,18 @@ use net_types::{List, NoMemory};
 use std::alloc::Global;
 
 /// A list with its findings.
-#[derive(Drop)]
 pub struct AuditedList {
     pub list: FolderList,
     pub findings: List<Finding>,
+}
+
+impl Drop for AuditedList {
+    fn drop(self) {
+        let AuditedList {
+            list: _,
+            findings: _,
+        } = self;
+    }
 }
 
 /// Each list with the findings at its position; `said` has those of the last list first. A list past their end has none.

@@ -16,7 +16,6 @@ pub struct Taken {
 }
 
 /// An entry that could go.
-#[derive(Drop)]
 pub struct Finding {
     pub sequence: u32,
     pub kind: Kind,
@@ -24,8 +23,17 @@ pub struct Finding {
     pub taken: List<Taken>,
 }
 
+impl Drop for Finding {
+    fn drop(self) {
+        let Finding {
+            sequence: _,
+            kind: _,
+            taken: _,
+        } = self;
+    }
+}
+
 /// What the lines behind one say, from the last to the first: what belongs to a line that is still to come stands apart.
-#[derive(Drop)]
 pub struct Behind {
     /// The findings of whole lists.
     pub lists: List<List<Finding>>,
@@ -37,12 +45,23 @@ pub struct Behind {
     pub rows: List<Text>,
 }
 
+impl Drop for Behind {
+    fn drop(self) {
+        let Behind {
+            lists: _,
+            findings: _,
+            taken: _,
+            rows: _,
+        } = self;
+    }
+}
+
 /// The findings of each list of which there is a line, the last list first.
 pub(crate) fn findings_in(alloc: Global, lines: &[&[u8]]) -> Result<Vec<List<Finding>>, NoMemory>
     ensures { IfOk result (λ lists. lists.items ≡ said_in (map (λ line. line.now) lines.now)) }
 {
     let behind = read_back(alloc, lines)?;
-    Ok(behind.lists.into_vec())
+    Ok(behind.into_lists())
 }
 
 fn read_back(alloc: Global, lines: &[&[u8]]) -> Result<Behind, NoMemory>
@@ -80,6 +99,18 @@ fn turned<T: Drop>(alloc: Global, list: &mut List<T>) -> List<T>
 }
 
 impl Behind {
+    fn into_lists(self) -> Vec<List<Finding>>
+        ensures { result.items ≡ self.lists }
+    {
+        let Behind {
+            lists,
+            findings: _,
+            taken: _,
+            rows: _,
+        } = self;
+        lists.into_vec()
+    }
+
     // One line more, above the others.
     fn add(&mut self, alloc: Global, said: Said, line: &[u8]) -> Result<(), NoMemory>
         ensures { IfOk result (λ _. self.new ≡ with_line said line.now self.old) }

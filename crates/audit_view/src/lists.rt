@@ -22,7 +22,6 @@ pub struct ListEntry {
 }
 
 /// An access list of a file.
-#[derive(Drop)]
 pub struct FolderList {
     /// The file's name.
     pub file: Text,
@@ -31,6 +30,17 @@ pub struct FolderList {
     pub closing: Option<u32>,
     /// The entries, in the order of their lines.
     pub entries: List<ListEntry>,
+}
+
+impl Drop for FolderList {
+    fn drop(self) {
+        let FolderList {
+            file: _,
+            name: _,
+            closing: _,
+            entries: _,
+        } = self;
+    }
 }
 
 /// Adds the lists of a file, which has these bytes, in the order of the configuration.

@@ -12,7 +12,7 @@ use crate::said::Kind;
 use crate::unknown::entry_of;
 use net_types::{NoMemory, Text};
 use std::alloc::Global;
-use view_core::{Markup, Sheet, page_with};
+use view_core::{Markup, Part, Sheet, page_with};
 
 /// The page: how many findings there are, by list, then each list with its findings, and at last the closing denials.
 pub(crate) fn page_bytes(
@@ -38,20 +38,22 @@ pub(crate) fn page_bytes(
 }
 
 fn add_summary(page: &mut Sheet, audited: &[AuditedList]) -> Result<(), NoMemory> {
-    page.markup(Markup::Head)?;
-    page.markup(Markup::AuditTitle)?;
-    page.markup(Markup::Style)?;
-    page.markup(Markup::AuditTitle)?;
-    page.markup(Markup::Summary)?;
-    page.markup(Markup::Some)?;
-    add_count(page, findings(audited))?;
-    page.markup(Markup::FindingsIn)?;
-    page.number(lists_with_findings(audited) as u64)?;
-    page.markup(Markup::Of)?;
-    page.number(audited.len() as u64)?;
-    page.markup(Markup::ListsAnd)?;
-    add_count(page, total(Group::Closing, audited))?;
-    page.markup(Markup::SummaryEnd)?;
+    page.parts(&[
+        Part::Markup(Markup::Head),
+        Part::Markup(Markup::AuditTitle),
+        Part::Markup(Markup::Style),
+        Part::Markup(Markup::AuditTitle),
+        Part::Markup(Markup::Summary),
+        Part::Markup(Markup::Some),
+        count_part(findings(audited)),
+        Part::Markup(Markup::FindingsIn),
+        Part::Number(lists_with_findings(audited) as u64),
+        Part::Markup(Markup::Of),
+        Part::Number(audited.len() as u64),
+        Part::Markup(Markup::ListsAnd),
+        count_part(total(Group::Closing, audited)),
+        Part::Markup(Markup::SummaryEnd),
+    ])?;
     add_counts(page, audited)?;
     page.markup(Markup::SectionEnd)
 }
@@ -61,10 +63,10 @@ fn findings(audited: &[AuditedList]) -> u128 {
 }
 
 // A count; there are never more than 2 ^ 64 findings.
-fn add_count(page: &mut Sheet, count: u128) -> Result<(), NoMemory> {
+fn count_part(count: u128) -> Part<'static> {
     match u64::try_from(count) {
-        Ok(count) => page.number(count),
-        Err(_) => Ok(()),
+        Ok(count) => Part::Number(count),
+        Err(_) => Part::Text(b""),
     }
 }
 
@@ -76,34 +78,40 @@ fn add_counts(page: &mut Sheet, audited: &[AuditedList]) -> Result<(), NoMemory>
             add_list_counts(page, one)?;
         }
     }
-    page.markup(Markup::CountsRow)?;
-    page.markup(Markup::AllLists)?;
-    page.markup(Markup::CountsFirst)?;
-    add_count(page, total(Group::Dead, audited))?;
-    page.markup(Markup::CountsNext)?;
-    add_count(page, total(Group::Redundant, audited))?;
-    page.markup(Markup::CountsNext)?;
-    add_count(page, total(Group::Closing, audited))?;
-    page.markup(Markup::CountsRowEnd)?;
-    page.markup(Markup::CountsEnd)
+    page.parts(&[
+        Part::Markup(Markup::CountsRow),
+        Part::Markup(Markup::AllLists),
+        Part::Markup(Markup::CountsFirst),
+        count_part(total(Group::Dead, audited)),
+        Part::Markup(Markup::CountsNext),
+        count_part(total(Group::Redundant, audited)),
+        Part::Markup(Markup::CountsNext),
+        count_part(total(Group::Closing, audited)),
+        Part::Markup(Markup::CountsRowEnd),
+        Part::Markup(Markup::CountsEnd),
+    ])
 }
 
 fn add_list_counts(page: &mut Sheet, audited: &AuditedList) -> Result<(), NoMemory> {
     page.markup(Markup::CountsRow)?;
     add_name(page, &audited.list)?;
-    page.markup(Markup::CountsFirst)?;
-    page.number(count_in(Group::Dead, audited) as u64)?;
-    page.markup(Markup::CountsNext)?;
-    page.number(count_in(Group::Redundant, audited) as u64)?;
-    page.markup(Markup::CountsNext)?;
-    page.number(count_in(Group::Closing, audited) as u64)?;
-    page.markup(Markup::CountsRowEnd)
+    page.parts(&[
+        Part::Markup(Markup::CountsFirst),
+        Part::Number(count_in(Group::Dead, audited) as u64),
+        Part::Markup(Markup::CountsNext),
+        Part::Number(count_in(Group::Redundant, audited) as u64),
+        Part::Markup(Markup::CountsNext),
+        Part::Number(count_in(Group::Closing, audited) as u64),
+        Part::Markup(Markup::CountsRowEnd),
+    ])
 }
 
 fn add_name(page: &mut Sheet, list: &FolderList) -> Result<(), NoMemory> {
-    page.name(list.file.as_bytes())?;
-    page.markup(Markup::Blank)?;
-    page.name(list.name.as_bytes())
+    page.parts(&[
+        Part::Name(list.file.as_bytes()),
+        Part::Markup(Markup::Blank),
+        Part::Name(list.name.as_bytes()),
+    ])
 }
 
 fn add_list(page: &mut Sheet, audited: &AuditedList, rows: bool) -> Result<(), NoMemory> {
@@ -146,10 +154,12 @@ fn add_entry(
     text: Markup,
     entry: &ListEntry,
 ) -> Result<(), NoMemory> {
-    page.markup(line)?;
-    page.number(u64::from(entry.line))?;
-    page.markup(text)?;
-    page.text(entry.text.as_bytes())
+    page.parts(&[
+        Part::Markup(line),
+        Part::Number(u64::from(entry.line)),
+        Part::Markup(text),
+        Part::Text(entry.text.as_bytes()),
+    ])
 }
 
 fn add_takers(
@@ -175,8 +185,10 @@ fn add_taker(
         return Ok(());
     };
     add_entry(page, Markup::Taker, Markup::TakerEntry, entry)?;
-    page.markup(Markup::TakerRows)?;
-    page.number(taken.rows.as_slice().len() as u64)?;
+    page.parts(&[
+        Part::Markup(Markup::TakerRows),
+        Part::Number(taken.rows.as_slice().len() as u64),
+    ])?;
     if rows {
         add_headers(page, taken.rows.as_slice())?;
     }
@@ -186,8 +198,7 @@ fn add_taker(
 fn add_headers(page: &mut Sheet, texts: &[Text]) -> Result<(), NoMemory> {
     page.markup(Markup::Headers)?;
     for text in texts {
-        page.text(text.as_bytes())?;
-        page.markup(Markup::LineEnd)?;
+        page.parts(&[Part::Text(text.as_bytes()), Part::Markup(Markup::LineEnd)])?;
     }
     page.markup(Markup::HeadersEnd)
 }
@@ -212,6 +223,8 @@ fn add_closing(page: &mut Sheet, list: &FolderList, finding: &Finding) -> Result
     page.markup(Markup::Item)?;
     page.name(list.file.as_bytes())?;
     add_entry(page, Markup::ClosingLine, Markup::TakerEntry, entry)?;
-    page.markup(Markup::EntryEnd)?;
-    page.markup(Markup::ItemEnd)
+    page.parts(&[
+        Part::Markup(Markup::EntryEnd),
+        Part::Markup(Markup::ItemEnd),
+    ])
 }

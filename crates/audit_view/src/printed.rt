@@ -8,7 +8,8 @@ use crate::findings::{Finding, Taken};
 use crate::lists::FolderList;
 use crate::said::Kind;
 use net_types::{NoMemory, Text};
-use report_text::{append, append_number};
+use report_text::TextPart::{Bytes, Number};
+use report_text::{append, append_all};
 use std::alloc::Global;
 
 /// The text of an audit with these findings.
@@ -18,9 +19,14 @@ pub(crate) fn audit_bytes(alloc: Global, audited: &[AuditedList]) -> Result<Vec<
 {
     let mut text = Vec::new(alloc);
     append_lists(&mut text, audited)?;
-    append(&mut text, b"findings ")?;
-    append_number(&mut text, finding_count(audited))?;
-    append(&mut text, b"\n")?;
+    append_all(
+        &mut text,
+        &[
+            Bytes(b"findings "),
+            Number(finding_count(audited)),
+            Bytes(b"\n"),
+        ],
+    )?;
     Ok(text)
 }
 
@@ -58,11 +64,15 @@ fn append_list(out: &mut Vec<u8>, audited: &AuditedList) -> Result<(), NoMemory>
 fn append_name(out: &mut Vec<u8>, list: &FolderList) -> Result<(), NoMemory>
     ensures { OnOk result (out.new.items ≡ out.old.items ++ name_print list.now) }
 {
-    append(out, b"list ")?;
-    append(out, list.file.as_bytes())?;
-    append(out, b" ")?;
-    append(out, list.name.as_bytes())?;
-    Ok(())
+    append_all(
+        out,
+        &[
+            Bytes(b"list "),
+            Bytes(list.file.as_bytes()),
+            Bytes(b" "),
+            Bytes(list.name.as_bytes()),
+        ],
+    )
 }
 
 // How many findings there are of each kind.
@@ -70,12 +80,16 @@ fn append_name(out: &mut Vec<u8>, list: &FolderList) -> Result<(), NoMemory>
 fn append_kinds(out: &mut Vec<u8>, findings: &[Finding]) -> Result<(), NoMemory>
     ensures { OnOk result (out.new.items ≡ out.old.items ++ kinds_print findings.now) }
 {
-    append(out, b" dead ")?;
-    append_number(out, dead_count(findings))?;
-    append(out, b" redundant ")?;
-    append_number(out, redundant_count(findings))?;
-    append(out, b"\n")?;
-    Ok(())
+    append_all(
+        out,
+        &[
+            Bytes(b" dead "),
+            Number(dead_count(findings) as u128),
+            Bytes(b" redundant "),
+            Number(redundant_count(findings) as u128),
+            Bytes(b"\n"),
+        ],
+    )
 }
 
 /// How many of the findings are dead entries.
@@ -125,11 +139,16 @@ fn append_findings(out: &mut Vec<u8>, findings: &[Finding]) -> Result<(), NoMemo
 fn append_finding(out: &mut Vec<u8>, finding: &Finding) -> Result<(), NoMemory>
     ensures { OnOk result (out.new.items ≡ out.old.items ++ finding_print finding.now) }
 {
-    append(out, b"entry ")?;
-    append_number(out, finding.sequence)?;
-    append(out, b" ")?;
-    append(out, kind_name(finding.kind))?;
-    append(out, b"\n")?;
+    append_all(
+        out,
+        &[
+            Bytes(b"entry "),
+            Number(finding.sequence.into()),
+            Bytes(b" "),
+            Bytes(kind_name(finding.kind)),
+            Bytes(b"\n"),
+        ],
+    )?;
     append_all_taken(out, finding.taken.as_slice())
 }
 
@@ -146,11 +165,16 @@ fn append_all_taken(out: &mut Vec<u8>, taken: &[Taken]) -> Result<(), NoMemory>
 fn append_taken(out: &mut Vec<u8>, taken: &Taken) -> Result<(), NoMemory>
     ensures { OnOk result (out.new.items ≡ out.old.items ++ taken_print taken.now) }
 {
-    append(out, b"by ")?;
-    append_number(out, taken.sequence)?;
-    append(out, b" rows ")?;
-    append_number(out, taken.rows.as_slice().len())?;
-    append(out, b"\n")?;
+    append_all(
+        out,
+        &[
+            Bytes(b"by "),
+            Number(taken.sequence.into()),
+            Bytes(b" rows "),
+            Number(taken.rows.as_slice().len() as u128),
+            Bytes(b"\n"),
+        ],
+    )?;
     append_rows(out, taken.rows.as_slice())
 }
 

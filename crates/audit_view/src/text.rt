@@ -10,7 +10,8 @@ use crate::lists::FolderList;
 use crate::printed::kind_name;
 use crate::unknown::entry_of;
 use net_types::{NoMemory, Text};
-use report_text::{append, append_number};
+use report_text::TextPart::Bytes;
+use report_text::{append, append_all, append_number};
 use std::alloc::Global;
 
 // Each function adds a text at the end. Where memory runs out, a part of the text may stand there.
@@ -110,9 +111,14 @@ fn append_counts(out: &mut Vec<u8>, audited: &AuditedList) -> Result<(), NoMemor
 fn append_name(out: &mut Vec<u8>, list: &FolderList) -> Result<(), NoMemory>
     ensures { OnOk result (out.new.items ≡ out.old.items ++ name_text list.now) }
 {
-    append(out, list.file.as_bytes())?;
-    append(out, b" ")?;
-    append(out, list.name.as_bytes())
+    append_all(
+        out,
+        &[
+            Bytes(list.file.as_bytes()),
+            Bytes(b" "),
+            Bytes(list.name.as_bytes()),
+        ],
+    )
 }
 
 fn append_lists(out: &mut Vec<u8>, audited: &[AuditedList], rows: bool) -> Result<(), NoMemory>
@@ -185,9 +191,10 @@ fn append_finding(
 {
     append(out, b"  line ")?;
     append_line(out, list, finding.sequence)?;
-    append(out, b" ")?;
-    append(out, kind_name(finding.kind))?;
-    append(out, b": ")?;
+    append_all(
+        out,
+        &[Bytes(b" "), Bytes(kind_name(finding.kind)), Bytes(b": ")],
+    )?;
     append_text(out, list, finding.sequence)?;
     append(out, b"\n")?;
     append_all_taken(out, list, finding.taken.as_slice(), rows)
@@ -251,9 +258,10 @@ fn append_rows(out: &mut Vec<u8>, texts: &[Text]) -> Result<(), NoMemory>
 fn append_row(out: &mut Vec<u8>, text: &Text) -> Result<(), NoMemory>
     ensures { OnOk result (out.new.items ≡ out.old.items ++ row_line text.now) }
 {
-    append(out, b"      ")?;
-    append(out, text.as_bytes())?;
-    append(out, b"\n")
+    append_all(
+        out,
+        &[Bytes(b"      "), Bytes(text.as_bytes()), Bytes(b"\n")],
+    )
 }
 
 /// Adds the place of the line of the entry of this sequence number.
@@ -333,9 +341,10 @@ fn append_closing(out: &mut Vec<u8>, list: &FolderList, finding: &Finding) -> Re
 fn append_denial(out: &mut Vec<u8>, list: &FolderList, finding: &Finding) -> Result<(), NoMemory>
     ensures { OnOk result (out.new.items ≡ out.old.items ++ denial_text list.now finding.now) }
 {
-    append(out, b"  ")?;
-    append(out, list.file.as_bytes())?;
-    append(out, b" line ")?;
+    append_all(
+        out,
+        &[Bytes(b"  "), Bytes(list.file.as_bytes()), Bytes(b" line ")],
+    )?;
     append_line(out, list, finding.sequence)?;
     append(out, b": ")?;
     append_text(out, list, finding.sequence)?;
