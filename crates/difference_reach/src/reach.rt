@@ -26,7 +26,6 @@ use std::alloc::Global;
 
 /// For each place the headers of the networks' scope that may meet a difference of the two from there on, as functions of a
 /// table.
-#[derive(Drop)]
 pub struct Reach<'a> {
     /// The headers for which the sets are told. Others may stand in them too.
     scope: u32,
@@ -35,6 +34,17 @@ pub struct Reach<'a> {
     own: IndexMap<Place, u32>,
     /// By the positions of the old network's places: the headers that go on to where they may meet a difference.
     back: Vec<u32>,
+}
+
+impl<'a> Drop for Reach<'a> {
+    fn drop(self) {
+        let Reach {
+            scope: _,
+            places: _,
+            own: _,
+            back: _,
+        } = self;
+    }
 }
 
 impl<'a> Reach<'a> {

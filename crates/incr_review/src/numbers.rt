@@ -24,10 +24,18 @@ pub(crate) struct FactList {
 
 /// The facts of headers: the number of a function of a table that gives each header of which a fact holds the number of its
 /// facts, and no other header one; and the facts at each number.
-#[derive(Drop)]
 pub(crate) struct FactNumbers {
     pub(crate) function: u32,
     pub(crate) lists: Vec<FactList>,
+}
+
+impl Drop for FactNumbers {
+    fn drop(self) {
+        let FactNumbers {
+            function: _,
+            lists: _,
+        } = self;
+    }
 }
 
 /// The numbers of headers by these facts, each of which stands once: two headers have one number exactly where the same facts

@@ -22,11 +22,20 @@ use std::marker::Model;
 use std::mem;
 
 /// A network whose devices may be replaced, with its links. The ways of its places are known at each moment.
-#[derive(Drop)]
 pub struct LiveNetwork<'a> {
     network: Network,
     links: &'a Links,
     live: LiveWays,
+}
+
+impl<'a> Drop for LiveNetwork<'a> {
+    fn drop(self) {
+        let LiveNetwork {
+            network: _,
+            links: _,
+            live: _,
+        } = self;
+    }
 }
 
 impl<'a> Model for LiveNetwork<'a> {

@@ -35,11 +35,16 @@ use steal_pool::{Gate, Workers};
 use table_twins::{Base, Twins};
 
 /// The scope of a change, with the ways of all places of both networks for its headers.
-#[derive(Drop)]
 pub struct ScopedWays {
     /// The number of the function that has a value on exactly the headers of the scope.
     pub scope: u32,
     pub ways: BothWays,
+}
+
+impl Drop for ScopedWays {
+    fn drop(self) {
+        let ScopedWays { scope: _, ways: _ } = self;
+    }
 }
 
 /// The report on two networks with the same links: for each ingress, in order, the canonical rows of exactly the
