@@ -1,8 +1,4 @@
 pub mod ReachingLemmas
-pub mod WholeLemmas
-pub mod WayLemmas
-pub mod LoopLemmas
-pub mod BoundsLemmas
 pub mod AnswerLemmas
 pub mod SharedLemmas
 pub mod SlotLemmas

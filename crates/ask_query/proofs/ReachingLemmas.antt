@@ -16,12 +16,7 @@ use Rattle.net_types.specs.Questions.{ReachesNamed}
 use Rattle.net_types.specs.Questions.{IsAt}
 use Rattle.ask_query.specs.Reaching.{EndsAt, EndsNamed, AreEndsFor}
 use Rattle.net_types.proofs.QuestionLaws.{reaches_by_label}
-
-pub empty_set : (f : Functions) (set : ℕ) → ((h : ℕ) → value_at f set h ≡ None) → (h : Header) → InSet f set h → ⊥
-empty_set f set e h i = no_value (subst (λ x. IsSome x) (e (number h)) i)
-  where
-    no_value : IsSome {T = ℕ} None → ⊥
-    no_value s = cc
+use Rattle.loop_search.proofs.WayLemmas.{empty_set}
 
 pub no_name : (f g : Functions) (ends : List OutcomeSet) (set : ℕ) (to : Option Place) → to ≡ None → ((h : ℕ) → value_at g set h ≡ None) → IsSetOf g set (EndsNamed f ends to)
 no_name f g ends set to none e h v = (λ i. absurd (empty_set g set e h i), λ n. let q = sym none ∙ n.named in absurd cc)

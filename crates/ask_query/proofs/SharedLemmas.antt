@@ -9,8 +9,8 @@ use Rattle.ask_query.specs.declared.shared.Asked.{Asked}
 use Rattle.ask_query.specs.Shared.{IsAsked}
 use Rattle.ask_query.specs.Slots.{AnswerNumbers}
 use Rattle.ask_query.proofs.AnswerLemmas.{filter_kept}
-use Rattle.ask_query.proofs.BoundsLemmas.{below_kept, bounds_kept}
-use Rattle.ask_query.proofs.WholeLemmas.{whole_kept}
+use Rattle.loop_search.proofs.BoundsLemmas.{below_kept, bounds_kept}
+use Rattle.loop_search.proofs.WholeLemmas.{whole_kept}
 
 pub asked_kept : (f g : Functions) (a : Asked) → Keeps f g → IsAsked f a → IsAsked g a
 asked_kept f g a k i =

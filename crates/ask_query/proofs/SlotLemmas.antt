@@ -9,23 +9,12 @@ use Rattle.std.proofs.lemmas.List.Elements.{All-nil, All-push, All-weaker, Conta
 use Rattle.net_types.specs.declared.question.Answer.{Answer}
 use Rattle.net_types.specs.declared.question.Question.{Question}
 use Rattle.net_types.specs.World.{World}
+use Rattle.loop_search.proofs.Positions.{set_same, set_other}
 use Rattle.ask_query.specs.declared.slots.Slot.{Slot}
 use Rattle.ask_query.proofs.AnswerLemmas.{zip_more}
 use Rattle.ask_query.specs.Slots.{numbers_at, numbers_of, AreBelow, IsInSlot, HaveSlots, AnswersNumber, AreRight, IsKnown}
 
--- ---- one item of a list is set, or one more stands last
-pub set_same : {A : Type 0} (xs : List A) (i : ℕ) (v : A) → i < length xs → slice_get (slice_set xs i v) i ≡ Some v
-set_same [] i v l = absurd (omega (arith, l))
-set_same (x ∷ xs) zero v l = refl
-set_same (x ∷ xs) (suc i) v l = set_same xs i v (omega (arith, l))
-
-pub set_other : {A : Type 0} (xs : List A) (i j : ℕ) (v : A) → i ≢ j → slice_get (slice_set xs i v) j ≡ slice_get xs j
-set_other [] i j v n = refl
-set_other (x ∷ xs) zero zero v n = absurd (n refl)
-set_other (x ∷ xs) zero (suc j) v n = refl
-set_other (x ∷ xs) (suc i) zero v n = refl
-set_other (x ∷ xs) (suc i) (suc j) v n = set_other xs i j v (λ e. n (ap suc e))
-
+-- ---- what stands in a list where one item is set, or one more stands last
 get_left : {A : Type 0} (xs ys : List A) (i : ℕ) → i < length xs → slice_get (xs ++ ys) i ≡ slice_get xs i
 get_left [] ys i l = absurd (omega (arith, l))
 get_left (x ∷ xs) ys zero l = refl

@@ -1,8 +1,5 @@
 pub mod Reaching
-pub mod WholeNets
 pub mod Breaking
-pub mod Looping
-pub mod Bounds
 pub mod Slots
 pub mod Shared
 pub mod Refusals

@@ -6,10 +6,10 @@ use Rattle.net_types.specs.World.{World}
 use Rattle.net_view.specs.Borrowed.{world_of}
 use Rattle.ask_query.specs.declared.shared.Asked.{Asked}
 use Rattle.ask_query.specs.declared.slots.Slot.{Slot}
-use Rattle.ask_query.specs.Bounds.{AreInTable, AreBounds}
+use Rattle.loop_search.specs.Bounds.{AreInTable, AreBounds}
 use Rattle.ask_query.specs.Breaking.{HaveFilters}
 use Rattle.ask_query.specs.Slots.{AreBelow, HaveSlots}
-use Rattle.ask_query.specs.WholeNets.{IsWholeNet}
+use Rattle.loop_search.specs.WholeNets.{IsWholeNet}
 
 -- questions on a whole network, of whose filters the domain has all headers and of whose loops the bounds have all that enter one, each
 -- in one of few slots of their numbers

@@ -17,13 +17,12 @@ ghost use Rattle.ask_query.specs.Breaking.{AreBreaking, HasFilter, HaveFilters, 
 ghost use Rattle.ask_query.specs.Slots.{AnswerNumbers};
 ghost use Rattle.ask_query.specs.Shared.{IsAsked};
 
-use crate::bounds::bound_at;
-use crate::looping::looping;
 use crate::reaching::headers_to;
 use crate::shared::Asked;
 use cube_diagram::Diagrams;
 use hdr_bits::Cube;
 use indexmap::IndexMap;
+use loop_search::{bound_at, looping};
 use net_types::{Answer, NoMemory, Place, Question, QuestionKind};
 use set_walk::sets::{both, either, without};
 use set_walk::{OutcomeSet, labels};

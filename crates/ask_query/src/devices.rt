@@ -13,10 +13,18 @@ use std::alloc::Global;
 use std::marker::Model;
 
 /// A network, with the first device of each hostname.
-#[derive(Drop)]
 pub(crate) struct DeviceIndex<'a> {
     network: &'a Network,
     firsts: IndexMap<&'a [u8], PlaceIndex<'a>>,
+}
+
+impl<'a> Drop for DeviceIndex<'a> {
+    fn drop(self) {
+        let DeviceIndex {
+            network: _,
+            firsts: _,
+        } = self;
+    }
 }
 
 impl<'a> Model for DeviceIndex<'a> {
@@ -50,10 +58,18 @@ impl<'a> DeviceIndex<'a> {
 }
 
 /// A device, with the position of its first interface of each name.
-#[derive(Drop)]
 pub(crate) struct PlaceIndex<'a> {
     device: &'a NetDevice,
     positions: IndexMap<&'a [u8], usize>,
+}
+
+impl<'a> Drop for PlaceIndex<'a> {
+    fn drop(self) {
+        let PlaceIndex {
+            device: _,
+            positions: _,
+        } = self;
+    }
 }
 
 impl<'a> Model for PlaceIndex<'a> {

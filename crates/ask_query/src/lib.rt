@@ -8,11 +8,9 @@
 mod answering;
 mod answers;
 mod asked;
-mod bounds;
 mod devices;
 mod fields;
 mod gathering;
-mod looping;
 mod reaching;
 mod reading;
 mod refusal;

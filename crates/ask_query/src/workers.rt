@@ -4,18 +4,18 @@ ghost use Rattle.std.specs.Prelude.{◌≡◌, ◌<◌, ◌≤◌, ◌^◌, ℕ,
 ghost use Rattle.net_types.specs.Questions.{AreAnswers};
 ghost use Rattle.net_view.specs.Borrowed.{world_of};
 ghost use Rattle.task_board.specs.Regions.{Holds, LieApart};
-ghost use Rattle.ask_query.specs.WholeNets.{IsWholeNet};
+ghost use Rattle.loop_search.specs.WholeNets.{IsWholeNet};
 ghost use Rattle.ask_query.specs.Shared.{IsAsked, IsNamed};
 
 use crate::answering::{Answering, BySlots};
 use crate::answers::filtered;
-use crate::bounds::loop_bounds;
 use crate::gathering::answers_of_leaves;
 use crate::shared::{Asked, Asking};
 use crate::slots::slots_of;
 use cube_alg::Region;
 use cube_diagram::Diagrams;
 use hdr_bits::Cube;
+use loop_search::loop_bounds;
 use net_types::{Answer, NoMemory, Question};
 use set_walk::Net;
 use std::alloc::Global;

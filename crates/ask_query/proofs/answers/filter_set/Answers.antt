@@ -1,5 +1,5 @@
 use Rattle.set_walk.proofs.SetLemmas.{cube_set}
-use Rattle.ask_query.proofs.WayLemmas.{ok_both}
+use Rattle.loop_search.proofs.WayLemmas.{ok_both}
 use Rattle.ask_query.proofs.answers.filter_set.Goals as goal
 
 pub returns-clause-set : goal.returns-clause-set

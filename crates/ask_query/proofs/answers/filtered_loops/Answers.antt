@@ -3,8 +3,8 @@ use Rattle.std.proofs.lemmas.Result.{IfOk-weaker}
 use Rattle.hdr_bits.specs.HeaderBits.{number}
 use Rattle.hdr_bits.specs.CubeBits.{IsIn}
 use Rattle.set_walk.proofs.SetLemmas.{keeps_then}
-use Rattle.ask_query.proofs.BoundsLemmas.{bounded_loops}
-use Rattle.ask_query.proofs.WholeLemmas.{whole_kept}
+use Rattle.loop_search.proofs.BoundsLemmas.{bounded_loops}
+use Rattle.loop_search.proofs.WholeLemmas.{whole_kept}
 use Rattle.ask_query.proofs.answers.filtered_loops.Goals as goal
 
 pub looping-requires-clause-net : goal.looping-requires-clause-net

@@ -10,7 +10,7 @@ use Rattle.set_walk.specs.Sets.{IsSetOf}
 use Rattle.set_walk.proofs.SetLemmas.{keeps_then, kept_below}
 use Rattle.ask_query.specs.Reaching.{EndsNamed}
 use Rattle.ask_query.proofs.AnswerLemmas.{reach_set, walks_kept, ends_of_labels, ends_kept, filter_kept, walk_added}
-use Rattle.ask_query.proofs.WholeLemmas.{is_within}
+use Rattle.loop_search.proofs.WholeLemmas.{is_within}
 use Rattle.ask_query.proofs.answers.reaching.Goals as goal
 
 pub ending-requires : goal.ending-requires

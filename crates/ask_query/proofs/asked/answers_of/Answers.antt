@@ -6,7 +6,7 @@ use Rattle.net_view.specs.Borrowed.{world_of}
 use Rattle.set_walk.specs.declared.net.PlaceWays.{PlaceWays}
 use Rattle.set_walk.specs.Nets.{AreWays}
 use Rattle.set_walk.proofs.ScopeLemmas.{all_inside, all_scope}
-use Rattle.ask_query.proofs.WholeLemmas.{all_kept}
+use Rattle.loop_search.proofs.WholeLemmas.{all_kept}
 use Rattle.ask_query.proofs.asked.answers_of.Goals as goal
 
 pub ways_of_one-requires-clause-form : goal.ways_of_one-requires-clause-form

@@ -1,10 +1,10 @@
 use Rattle.std.proofs.Common.{◌<◌, ◌^◌, ℕ, List, length, sym, subst}
 use Rattle.set_walk.proofs.SetLemmas.{kept_below}
-use Rattle.ask_query.specs.Bounds.{AreInTable, AreBounds}
+use Rattle.loop_search.specs.Bounds.{AreInTable, AreBounds}
 use Rattle.ask_query.proofs.AnswerLemmas.{filter_kept}
 use Rattle.ask_query.specs.declared.slots.Slot.{Slot}
 use Rattle.ask_query.specs.Slots.{AreBelow, HaveSlots}
-use Rattle.ask_query.proofs.WholeLemmas.{whole_kept}
+use Rattle.loop_search.proofs.WholeLemmas.{whole_kept}
 use Rattle.ask_query.proofs.workers.answers_by.Goals as goal
 
 pub loop_bounds-requires : goal.loop_bounds-requires

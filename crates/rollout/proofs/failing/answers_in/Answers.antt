@@ -2,7 +2,7 @@ use Rattle.std.proofs.Common.{subst, sym}
 use Rattle.cube_diagram.specs.Functions.{Functions}
 use Rattle.net_types.specs.Questions.{AreAnswers}
 use Rattle.net_types.specs.World.{World}
-use Rattle.ask_query.specs.WholeNets.{HasAll, IsWholeNet}
+use Rattle.loop_search.specs.WholeNets.{HasAll, IsWholeNet}
 use Rattle.rollout.proofs.failing.answers_in.Goals as goal
 
 pub answers_by-requires-clause-net : goal.answers_by-requires-clause-net

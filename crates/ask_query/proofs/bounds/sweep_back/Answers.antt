@@ -1,5 +1,0 @@
-use Rattle.ask_query.proofs.WholeLemmas.{whole_kept}
-use Rattle.ask_query.proofs.bounds.sweep_back.Goals as goal
-
-pub narrow_at-requires-clause-net : goal.narrow_at-requires-clause-net
-narrow_at-requires-clause-net c = whole_kept c.args.table.now c.loop-index.table c.args.net.now c.loop-index.invariant.kept c.requires.net

@@ -1,0 +1,5 @@
+pub mod Positions
+pub mod WholeLemmas
+pub mod WayLemmas
+pub mod LoopLemmas
+pub mod BoundsLemmas

@@ -1,0 +1,3 @@
+pub mod WholeNets
+pub mod Looping
+pub mod Bounds
