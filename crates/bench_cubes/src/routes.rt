@@ -97,7 +97,12 @@ fn measure_router(rt: &HostRuntime, config: &Config, timed: bool) -> io::Result<
         return Err(out_of_memory(NoMemory));
     };
     let built = start.elapsed(rt)?.as_micros();
-    let (parts, compiled) = compile_table(rt, &rib)?;
+    measure_table(rt, &rib, built, timed)
+}
+
+// The same of a table that was built in so many microseconds.
+fn measure_table(rt: &HostRuntime, rib: &Rib, built: u128, timed: bool) -> io::Result<()> {
+    let (parts, compiled) = compile_table(rt, rib)?;
     let (all, installed) = (rib.count, rib.routes.as_slice().len());
     println!(rt; "routes {all} installed {installed} cubes {parts}")?;
     if timed {

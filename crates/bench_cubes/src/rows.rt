@@ -68,18 +68,17 @@ fn pieces(alloc: Global, shape: Shape, count: u32) -> Result<Vec<Piece>, NoMemor
     Ok(all)
 }
 
+fn row_count(alloc: Global, pieces: &[Piece]) -> Result<usize, NoMemory> {
+    Ok(canon(alloc, pieces)?.len())
+}
+
 /// Prints how many rows so many pieces have, and the time where it is wanted.
 pub(crate) fn measure(rt: &HostRuntime, shape: Shape, count: u32, timed: bool) -> io::Result<()> {
     let all = pieces(rt.alloc(), shape, count).map_err(out_of_memory)?;
     let start = Instant::now(rt)?;
-    let rows = canon(rt.alloc(), &all).map_err(out_of_memory)?;
+    let rows = row_count(rt.alloc(), &all).map_err(out_of_memory)?;
     let time = start.elapsed(rt)?.as_micros();
-    println!(rt;
-        "rows {}: {} pieces, {} rows",
-        shape.name(),
-        all.len(),
-        rows.len()
-    )?;
+    println!(rt; "rows {}: {} pieces, {rows} rows", shape.name(), all.len())?;
     if timed {
         println!(rt; "  {time} us")?;
     }

@@ -8,6 +8,7 @@ use canon_rows::laws::{
 };
 use canon_rows::recursion::canon_by_recursion;
 use canon_rows::{Piece, canon};
+use std::alloc::Global;
 use test_stop::Stop;
 
 struct Case {
@@ -52,28 +53,43 @@ const CASES: [Case; 8] = [
 
 /// The rows of each case, as the table and as the plain recursion make them.
 pub(crate) fn show(rt: &HostRuntime) -> Result<(), Stop> {
-    let alloc = rt.alloc();
     for case in &CASES {
-        let mut pieces = Vec::new(alloc);
-        for (digits, value) in case.pieces {
-            pieces.push(Piece {
-                cube: cube(digits),
-                value: *value,
-            })?;
-        }
-        let rows = canon(alloc, &pieces)?;
-        let again = canon_by_recursion(alloc, &pieces)?;
-        println!(rt;
-            "{}: {}",
-            case.shows,
-            if rows == again { "both" } else { "?" }
-        )?;
-        for row in &rows {
-            println!(rt; "  {} {}", digits(alloc, &row.cube)?, row.value)?;
-        }
+        let pieces = pieces_of(rt.alloc(), case)?;
+        show_case(rt, case, &pieces)?;
     }
     call_laws();
     Ok(())
+}
+
+fn pieces_of(alloc: Global, case: &Case) -> Result<Vec<Piece>, Stop> {
+    let mut pieces = Vec::new(alloc);
+    for (digits, value) in case.pieces {
+        pieces.push(Piece {
+            cube: cube(digits),
+            value: *value,
+        })?;
+    }
+    Ok(pieces)
+}
+
+fn show_case(rt: &HostRuntime, case: &Case, pieces: &[Piece]) -> Result<(), Stop> {
+    let rows = canon(rt.alloc(), pieces)?;
+    show_rows(rt, case, pieces, &rows)
+}
+
+fn show_rows(rt: &HostRuntime, case: &Case, pieces: &[Piece], rows: &[Piece]) -> Result<(), Stop> {
+    let both = is_made_again(rt.alloc(), pieces, rows)?;
+    println!(rt; "{}: {}", case.shows, if both { "both" } else { "?" })?;
+    for row in rows {
+        println!(rt; "  {} {}", digits(rt.alloc(), &row.cube)?, row.value)?;
+    }
+    Ok(())
+}
+
+// Whether the plain recursion makes these rows of the pieces too.
+fn is_made_again(alloc: Global, pieces: &[Piece], rows: &[Piece]) -> Result<bool, Stop> {
+    let again = canon_by_recursion(alloc, pieces)?;
+    Ok(again.as_slice() == rows)
 }
 
 // Each law at one type.

@@ -1,12 +1,13 @@
 //! The headers of each value of a function within a set, and how many rows the function has there: a row for each way down
 //! its diagram to a value.
 
-ghost use Rattle.std.specs.Prelude.{◌<◌};
+ghost use Rattle.std.specs.Prelude.{◌<◌, IfOk};
 ghost use Rattle.cube_diagram.specs.Functions.{count_of};
 
 use crate::text::{cube, digits};
 use cube_alg::Piece;
 use cube_diagram::{Diagrams, ValueSet};
+use std::alloc::Global;
 use test_stop::Stop;
 
 struct Case {
@@ -77,14 +78,7 @@ fn show_all(rt: &HostRuntime, d: &mut Diagrams) -> Result<(), Stop> {
 }
 
 fn show_case(rt: &HostRuntime, d: &mut Diagrams, case: &Case) -> Result<(), Stop> {
-    let mut pieces = Vec::new(rt.alloc());
-    for (digits, value) in case.pieces {
-        pieces.push(Piece {
-            cube: cube(digits),
-            value: *value,
-        })?;
-    }
-    let list = d.first_match(&pieces)?;
+    let list = function_of(rt.alloc(), d, case)?;
     let given = d.add_entry(&[cube(case.given)], 1)?;
     let part = d.within(list, given)?;
     let count = d.row_count(rt.alloc(), part)?;
@@ -94,6 +88,19 @@ fn show_case(rt: &HostRuntime, d: &mut Diagrams, case: &Case) -> Result<(), Stop
         show_set(rt, d, one)?;
     }
     Ok(())
+}
+
+fn function_of(alloc: Global, d: &mut Diagrams, case: &Case) -> Result<u32, Stop>
+    ensures below { IfOk result (λ list. list < count_of d.new) }
+{
+    let mut pieces = Vec::new(alloc);
+    for (digits, value) in case.pieces {
+        pieces.push(Piece {
+            cube: cube(digits),
+            value: *value,
+        })?;
+    }
+    Ok(d.first_match(&pieces)?)
 }
 
 fn show_set(rt: &HostRuntime, d: &Diagrams, one: &ValueSet) -> Result<(), Stop>

@@ -11,29 +11,31 @@ use std::mem;
 
 /// A device of this name with a configuration that is drawn.
 pub(crate) fn drawn(alloc: Global, draws: &mut Draws, name: u32) -> Result<NetDevice, NoMemory> {
-    let count = 2 + draws.below(INTERFACES - 1);
-    let mut interfaces = List::empty(alloc);
-    for number in 0..count {
-        interfaces.push(interface(alloc, draws, number)?)?;
-    }
-    let mut routes = List::empty(alloc);
-    for _turn in 0..3 {
-        routes.push(route(alloc, draws)?)?;
-    }
-    let mut lists = List::empty(alloc);
-    lists.push(list(alloc, draws)?)?;
-    let mut nat = List::empty(alloc);
-    if draws.once_in(4) {
-        nat.push(rule())?;
-    }
-    let config = Config {
+    let mut config = Config {
         hostname: Text::copy_of(alloc, b"router")?,
-        interfaces,
-        routes,
-        lists,
-        nat,
+        interfaces: List::empty(alloc),
+        routes: List::empty(alloc),
+        lists: List::empty(alloc),
+        nat: List::empty(alloc),
     };
+    draw(alloc, draws, &mut config)?;
     device(alloc, name, config)
+}
+
+// What a configuration has is drawn.
+fn draw(alloc: Global, draws: &mut Draws, config: &mut Config) -> Result<(), NoMemory> {
+    let count = 2 + draws.below(INTERFACES - 1);
+    for number in 0..count {
+        config.interfaces.push(interface(alloc, draws, number)?)?;
+    }
+    for _turn in 0..3 {
+        config.routes.push(route(alloc, draws)?)?;
+    }
+    config.lists.push(list(alloc, draws)?)?;
+    if draws.once_in(4) {
+        config.nat.push(rule())?;
+    }
+    Ok(())
 }
 
 // The device of this name, whose interfaces have the numbers 0, 1, ..

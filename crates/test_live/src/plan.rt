@@ -9,26 +9,37 @@ pub(crate) const DEVICES: u32 = 5;
 /// The most interfaces of a device, with the numbers 0, 1, ..
 pub(crate) const INTERFACES: u32 = 4;
 
+/// The segments: whether each is a lan, and its ends, each a device and an interface.
+const SEGMENTS: [(bool, &[(u32, u32)]); 6] = [
+    (true, &[(0, 0), (1, 0), (2, 0), (3, 0), (4, 0)]),
+    (true, &[(0, 1), (1, 1), (2, 1)]),
+    (true, &[(2, 1), (3, 1), (4, 1)]),
+    (false, &[(0, 2), (1, 2)]),
+    (false, &[(2, 2), (3, 2)]),
+    (false, &[(4, 2), (0, 3)]),
+];
+
 pub(crate) fn links(alloc: Global) -> Result<Links, NoMemory> {
-    let mut segments = List::empty(alloc);
-    let wide = [at(0, 0), at(1, 0), at(2, 0), at(3, 0), at(4, 0)];
-    segments.push(segment(alloc, true, &wide)?)?;
-    let small = [at(0, 1), at(1, 1), at(2, 1)];
-    segments.push(segment(alloc, true, &small)?)?;
-    let twice = [at(2, 1), at(3, 1), at(4, 1)];
-    segments.push(segment(alloc, true, &twice)?)?;
-    segments.push(segment(alloc, false, &[at(0, 2), at(1, 2)])?)?;
-    segments.push(segment(alloc, false, &[at(2, 2), at(3, 2)])?)?;
-    segments.push(segment(alloc, false, &[at(4, 2), at(0, 3)])?)?;
-    let mut ingress = List::empty(alloc);
-    ingress.push(at(1, 3))?;
-    Ok(Links { segments, ingress })
+    let mut links = Links {
+        segments: List::empty(alloc),
+        ingress: List::empty(alloc),
+    };
+    join(alloc, &mut links)?;
+    Ok(links)
 }
 
-fn segment(alloc: Global, lan: bool, places: &[Place]) -> Result<Segment, NoMemory> {
+fn join(alloc: Global, links: &mut Links) -> Result<(), NoMemory> {
+    for (lan, ends) in &SEGMENTS {
+        links.segments.push(segment(alloc, *lan, ends)?)?;
+    }
+    links.ingress.push(at(1, 3))?;
+    Ok(())
+}
+
+fn segment(alloc: Global, lan: bool, places: &[(u32, u32)]) -> Result<Segment, NoMemory> {
     let mut ends = List::empty(alloc);
-    for place in places {
-        ends.push(*place)?;
+    for (device, interface) in places {
+        ends.push(at(*device, *interface))?;
     }
     Ok(Segment { lan, ends })
 }
