@@ -1,3 +1,4 @@
+use Rattle.std.proofs.lemmas.Grind.{common_steps}
 use Rattle.std.proofs.Common.{inl, inr, ap, ◌∙◌, ◌≡◌, ◌⊎◌, ◌-◌, Some, length, slice_get, subst, ◌+◌, arith}
 use Rattle.canon_rows.specs.Pieces.{value_of}
 use Rattle.canon_rows.specs.Nodes.{IsNumberOf}
@@ -29,3 +30,6 @@ returns-clause-number t c =
     let nodes = c.number_of_pieces-3.new.nodes.keys in
     let low = number_grows m c.number_of_pieces-2.new.nodes.keys nodes c.in_ok-low.low (value_of c.in_ok-zeros.zeros.items) c.in_ok-high.ensures.grows c.in_ok-low.ensures.number in
     subst (λ k. IsNumberOf c.number_of_halves.new.nodes.keys k c.in_ok-id-4.id f) w (c.in_ok-id-4.ensures.number f (value_of c.in_ok-zeros.zeros.items) (value_of c.in_ok-ones.ones.items) (λ n l. (rw (← c.deref-3.ensures.value) (c.in_ok-zeros.ensures.value n l), rw (← c.deref-4.ensures.value) (c.in_ok-ones.ensures.value n l))) low c.in_ok-high.ensures.number)
+
+pub returns-clause-grows : goal.returns-clause-grows
+returns-clause-grows t c = grind (arith, common_steps)

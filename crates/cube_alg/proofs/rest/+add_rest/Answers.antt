@@ -55,3 +55,18 @@ returns-clause-rest t c =
     let e = c.split.ensures in
     let s = turn_zero k c.args.a c.args.b.now c.split.result.0 c.split.result.1 p.bit p.first (split_halves k c.args.a c.split.result e.low e.high) e.low_bits e.high_bits (λ e. let t = c.is_one.ensures.1 e in true≢false (sym t ∙ c.if-is_one.false)) in
     adds_step c.args.a c.args.b.now c.split.result.1 c.split.result.0 k c.args.pieces.now.items _ s (rw c.in_ok-push-2.ensures.items at c.in_ok-add_rest-2.ensures.rest)
+
+pub returns-clause-grows : goal.returns-clause-grows
+returns-clause-grows t c =
+    extends_step c.args.pieces.now.items _ c.split.result.1 (rw c.in_ok-push-2.ensures.items at c.in_ok-add_rest-2.ensures.grows)
+
+pub returns-in_err-add_rest-clause-grows : goal.returns-in_err-add_rest-clause-grows
+returns-in_err-add_rest-clause-grows t c =
+    extends_step c.args.pieces.now.items _ c.split.result.0 (rw c.in_ok-push.ensures.items at c.in_err-add_rest.ensures.grows)
+
+pub returns-in_err-add_rest-2-clause-grows : goal.returns-in_err-add_rest-2-clause-grows
+returns-in_err-add_rest-2-clause-grows t c =
+    extends_step c.args.pieces.now.items _ c.split.result.1 (rw c.in_ok-push-2.ensures.items at c.in_err-add_rest-2.ensures.grows)
+
+pub returns-in_default-clause-grows : goal.returns-in_default-clause-grows
+returns-in_default-clause-grows t c = extends_same c.args.pieces.now.items _ refl

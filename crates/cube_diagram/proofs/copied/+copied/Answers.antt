@@ -1,3 +1,4 @@
+use Rattle.hdr_bits.proofs.ListLemmas.{extends_then}
 use Rattle.std.proofs.Common.{ap, sym, ◌∙◌, Some, arith, nat_eq}
 use Rattle.indexmap.specs.IndexMap.{get}
 use Rattle.cube_diagram.specs.declared.table.Node.TheVariants.{Split}
@@ -72,3 +73,15 @@ returns-in_ok-insert-in-Split-clause-known t c =
     let d3 = c.split.new.tables.table.nodes.items in
     let w = copied_step s c.copied.new.tables.table.nodes.items d2 d3 c.args.id x.bit x.low x.high a.a b.b r.result (c.node_at.ensures ∙ ap Some x.is) b.ensures.grows r.ensures.grows a.ensures.copied b.ensures.copied r.ensures.by in
     copied_inserted s d3 (get nat_eq c.copied-in-Split.new.known) (get nat_eq c.insert.new.self) c.args.id r.result c.in_ok-insert-in-Split.ensures.updates.0 (all_copied_grows s d2 d3 (get nat_eq c.copied-in-Split.new.known) r.ensures.grows b.ensures.known) w
+
+pub returns-in_err-b-in-Split-clause-grows : goal.returns-in_err-b-in-Split-clause-grows
+returns-in_err-b-in-Split-clause-grows t c = extends_then _ _ _ c.in_ok-a-in-Split.ensures.grows c.in_err-b-in-Split.ensures.grows
+
+pub returns-in_err-result-in-Split-clause-grows : goal.returns-in_err-result-in-Split-clause-grows
+returns-in_err-result-in-Split-clause-grows t c = extends_then _ _ _ (extends_then _ _ _ c.in_ok-a-in-Split.ensures.grows c.in_ok-b-in-Split.ensures.grows) c.in_err-result-in-Split.ensures.grows
+
+pub returns-in_err-insert-in-Split-clause-grows : goal.returns-in_err-insert-in-Split-clause-grows
+returns-in_err-insert-in-Split-clause-grows t c = extends_then _ _ _ (extends_then _ _ _ c.in_ok-a-in-Split.ensures.grows c.in_ok-b-in-Split.ensures.grows) c.in_ok-result-in-Split.ensures.grows
+
+pub returns-in_ok-insert-in-Split-clause-grows : goal.returns-in_ok-insert-in-Split-clause-grows
+returns-in_ok-insert-in-Split-clause-grows t c = extends_then _ _ _ (extends_then _ _ _ c.in_ok-a-in-Split.ensures.grows c.in_ok-b-in-Split.ensures.grows) c.in_ok-result-in-Split.ensures.grows

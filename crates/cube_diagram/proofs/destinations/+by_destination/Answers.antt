@@ -102,3 +102,12 @@ returns-clause-grows t c =
     let d2 = c.by_destination-2.new.tables.table.nodes.items in
     let d3 = c.split.new.tables.table.nodes.items in
     extends_then d0 d1 d3 c.in_ok-a.ensures.grows (extends_then d1 d2 d3 c.in_ok-b.ensures.grows c.in_ok-result.ensures.grows)
+
+pub returns-in_err-b-clause-grows : goal.returns-in_err-b-clause-grows
+returns-in_err-b-clause-grows t c = extends_then _ _ _ c.in_ok-a.ensures.grows c.in_err-b.ensures.grows
+
+pub returns-in_err-result-clause-grows : goal.returns-in_err-result-clause-grows
+returns-in_err-result-clause-grows t c = extends_then _ _ _ (extends_then _ _ _ c.in_ok-a.ensures.grows c.in_ok-b.ensures.grows) c.in_err-result.ensures.grows
+
+pub returns-in_err-insert-clause-grows : goal.returns-in_err-insert-clause-grows
+returns-in_err-insert-clause-grows t c = extends_then _ _ _ (extends_then _ _ _ c.in_ok-a.ensures.grows c.in_ok-b.ensures.grows) c.in_ok-result.ensures.grows

@@ -89,3 +89,6 @@ returns-clause-grows t c =
     let d2 = c.paired-2.new.tables.table.nodes.items in
     let d3 = c.split.new.tables.table.nodes.items in
     extends_then d0 d1 d3 c.in_ok-low.ensures.grows (extends_then d1 d2 d3 c.in_ok-high.ensures.grows c.in_ok-result.ensures.grows)
+
+pub returns-in_err-high-clause-grows : goal.returns-in_err-high-clause-grows
+returns-in_err-high-clause-grows t c = extends_then _ _ _ c.in_ok-low.ensures.grows c.in_err-high.ensures.grows

@@ -77,3 +77,12 @@ returns-in_ok-result-in-Split-clause-sound t c =
     let b = c.in_ok-b-in-Split in
     let r = c.in_ok-result-in-Split in
     with_picked c.split.new.tables c.remember.new.self r.ensures.sound (record { first = c.args.id; second = c.args.value; result = r.result }) (picked_step d0 d1 d2 d3 c.args.id c.args.value c.in-Split.bit c.in-Split.low c.in-Split.high a.a b.b r.result e a.ensures.grows b.ensures.grows r.ensures.grows a.ensures.picked b.ensures.picked r.ensures.by) c.remember.ensures
+
+pub returns-in_err-b-in-Split-clause-grows : goal.returns-in_err-b-in-Split-clause-grows
+returns-in_err-b-in-Split-clause-grows t c = extends_then _ _ _ c.in_ok-a-in-Split.ensures.grows c.in_err-b-in-Split.ensures.grows
+
+pub returns-in_err-result-in-Split-clause-grows : goal.returns-in_err-result-in-Split-clause-grows
+returns-in_err-result-in-Split-clause-grows t c = extends_then _ _ _ (extends_then _ _ _ c.in_ok-a-in-Split.ensures.grows c.in_ok-b-in-Split.ensures.grows) c.in_err-result-in-Split.ensures.grows
+
+pub returns-in_ok-result-in-Split-clause-grows : goal.returns-in_ok-result-in-Split-clause-grows
+returns-in_ok-result-in-Split-clause-grows t c = extends_then _ _ _ (extends_then _ _ _ c.in_ok-a-in-Split.ensures.grows c.in_ok-b-in-Split.ensures.grows) c.in_ok-result-in-Split.ensures.grows

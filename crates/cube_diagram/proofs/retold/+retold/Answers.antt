@@ -84,3 +84,15 @@ returns-in_ok-insert-in-Split-clause-known t c =
     let r = c.in_ok-result-in-Split in
     let w = retold_step d0 d1 d2 d3 c.args.told.now c.args.id x.bit x.low x.high a.a b.b r.result (c.node_at.ensures ∙ ap Some x.is) a.ensures.grows b.ensures.grows r.ensures.grows a.ensures.retold b.ensures.retold r.ensures.by in
     retold_inserted d3 c.args.told.now (get nat_eq c.retold-in-Split.new.known) (get nat_eq c.insert.new.self) c.args.id r.result c.in_ok-insert-in-Split.ensures.updates.0 (all_retold_grows d2 d3 c.args.told.now (get nat_eq c.retold-in-Split.new.known) r.ensures.grows b.ensures.known) w
+
+pub returns-in_err-b-in-Split-clause-grows : goal.returns-in_err-b-in-Split-clause-grows
+returns-in_err-b-in-Split-clause-grows t c = extends_then _ _ _ c.in_ok-a-in-Split.ensures.grows c.in_err-b-in-Split.ensures.grows
+
+pub returns-in_err-result-in-Split-clause-grows : goal.returns-in_err-result-in-Split-clause-grows
+returns-in_err-result-in-Split-clause-grows t c = extends_then _ _ _ (extends_then _ _ _ c.in_ok-a-in-Split.ensures.grows c.in_ok-b-in-Split.ensures.grows) c.in_err-result-in-Split.ensures.grows
+
+pub returns-in_err-insert-in-Split-clause-grows : goal.returns-in_err-insert-in-Split-clause-grows
+returns-in_err-insert-in-Split-clause-grows t c = extends_then _ _ _ (extends_then _ _ _ c.in_ok-a-in-Split.ensures.grows c.in_ok-b-in-Split.ensures.grows) c.in_ok-result-in-Split.ensures.grows
+
+pub returns-in_ok-insert-in-Split-clause-grows : goal.returns-in_ok-insert-in-Split-clause-grows
+returns-in_ok-insert-in-Split-clause-grows t c = extends_then _ _ _ (extends_then _ _ _ c.in_ok-a-in-Split.ensures.grows c.in_ok-b-in-Split.ensures.grows) c.in_ok-result-in-Split.ensures.grows

@@ -46,3 +46,12 @@ returns-clause-trie t c =
     let g3 = c.in_ok-high.ensures.grows in
     let g4 = c.in_ok-id-3.ensures.grows in
     trie_both d4 (drop start old) bit c.in_ok-low.low c.in_ok-high.high c.in_ok-id-3.id l (trie_grows d2 d4 _ (bit + 1) c.in_ok-low.low (extends_then d2 d3 d4 g3 g4) p) (trie_grows d3 d4 _ (bit + 1) c.in_ok-high.high g4 q) c.in_ok-id-3.ensures.by
+
+pub returns-in_err-high-clause-grows : goal.returns-in_err-high-clause-grows
+returns-in_err-high-clause-grows t c = extends_then _ _ _ c.in_ok-low.ensures.grows c.in_err-high.ensures.grows
+
+pub returns-in_err-id-3-clause-grows : goal.returns-in_err-id-3-clause-grows
+returns-in_err-id-3-clause-grows t c = extends_then _ _ _ (extends_then _ _ _ c.in_ok-low.ensures.grows c.in_ok-high.ensures.grows) c.in_err-id-3.ensures.grows
+
+pub returns-clause-grows : goal.returns-clause-grows
+returns-clause-grows t c = extends_then _ _ _ (extends_then _ _ _ c.in_ok-low.ensures.grows c.in_ok-high.ensures.grows) c.in_ok-id-3.ensures.grows

@@ -1,3 +1,5 @@
+use Rattle.std.proofs.Common.{arith}
+use Rattle.std.proofs.lemmas.Grind.{elements}
 use Rattle.std.proofs.Common.{◌<◌, ◌⊎◌, sym, subst, ◌∙◌}
 use Rattle.std.proofs.lemmas.Option.{slice_get_within}
 use Rattle.cube_diagram.specs.Functions.{count_of}
@@ -33,3 +35,9 @@ returns-clause-added c =
     let e = c.in-Some.ensures.1 in
     let same = c.index.ensures ∙ get_is xs i x c.index.result.now e in
     joined f c.either.new.table xs i c.in-Some.ensures.0 c.args.headers c.in_ok-all.all c.args.step c.in_ok-all.ensures.kept e c.in_ok-all.ensures.set.below (subst (λ (y : Way). IsSetOf c.either.new.table c.in_ok-all.all (λ h. InSet f y.headers h ⊎ InSet f c.args.headers h)) same c.in_ok-all.ensures.set.exact) c.requires.fits c.requires.ways
+
+pub index_mut-requires : goal.index_mut-requires
+index_mut-requires c = grind (arith, elements)
+
+pub index-requires : goal.index-requires
+index-requires c = grind (arith, elements)

@@ -1,3 +1,5 @@
+use Rattle.std.proofs.Common.{arith}
+use Rattle.std.proofs.lemmas.Grind.{common_steps}
 use Rattle.hdr_bits.proofs.ListLemmas.{extends_none, extends_then}
 use Rattle.net_types.specs.Moves.{is_inside}
 use Rattle.net_view.specs.Borrowed.{seat_of}
@@ -53,3 +55,6 @@ returns-clause-kept c =
     let d2 = c.takes_all.new.table in
     let d3 = c.add_own.new.table in
     keeps_then d0 d1 d3 c.in_ok-base.ensures.kept (keeps_then d1 d2 d3 c.in_ok-is_base.ensures.kept c.in_ok-position.ensures.kept)
+
+pub returns-in_err-position-clause-lists : goal.returns-in_err-position-clause-lists
+returns-in_err-position-clause-lists c = grind (arith, common_steps)

@@ -1,3 +1,4 @@
+use Rattle.std.proofs.lemmas.Result.{IfOk-from_err}
 use Rattle.std.proofs.Common.{get_or, subst, sym, take_all, ◌∙◌}
 use Rattle.std.proofs.lemmas.List.{get_or_default}
 use Rattle.hdr_bits.specs.HeaderBits.{number}
@@ -55,3 +56,15 @@ returns-clause-added c =
     let t = c.args.translation in
     let l = c.loop-rule in
     subst (λ xs. AddsParts l.table (λ h. InSet c.args.table.now c.args.given h × IsAmong (rule_of t) xs h) (λ h. translates t h) c.args.parts.now.items l.parts.items) (take_all l.rule-index c.args.rules.now c.loop-rule-test.false) l.invariant.added
+
+pub returns-in_err-part-clause-added : goal.returns-in_err-part-clause-added
+returns-in_err-part-clause-added c = IfOk-from_err _ _ c.from_residual.ensures.0
+
+pub returns-in_err-part-clause-kept : goal.returns-in_err-part-clause-kept
+returns-in_err-part-clause-kept c = keeps_then _ _ _ c.loop-rule.invariant.kept c.in_err-part.ensures.kept
+
+pub returns-in_err-add_by_outers-clause-added : goal.returns-in_err-add_by_outers-clause-added
+returns-in_err-add_by_outers-clause-added c = IfOk-from_err _ _ c.from_residual-in_err-add_by_outers.ensures.0
+
+pub returns-in_err-add_by_outers-clause-kept : goal.returns-in_err-add_by_outers-clause-kept
+returns-in_err-add_by_outers-clause-kept c = keeps_then _ _ _ (keeps_then _ _ _ c.loop-rule.invariant.kept c.in_ok-part.ensures.kept) c.in_err-add_by_outers.ensures.kept

@@ -1,3 +1,4 @@
+use Rattle.std.proofs.lemmas.Result.{IfOk-from_err}
 use Rattle.std.proofs.Common.{get_or, rules, subst, sym, take_all, ◌∙◌}
 use Rattle.std.proofs.lemmas.List.{get_or_default}
 use Rattle.hdr_bits.specs.HeaderBits.{number}
@@ -43,3 +44,15 @@ returns-clause-added c =
     let t = c.args.translation in
     let l = c.loop-outer in
     subst (λ xs. AddsParts l.table (λ h. InSet c.args.table.now c.args.given h × IsAmong (outer_of t) xs h) (λ h. translates t h) c.args.parts.now.items l.parts.items) (take_all l.outer-index c.args.outers.now c.loop-outer-test.false) l.invariant.added
+
+pub returns-in_err-headers-clause-added : goal.returns-in_err-headers-clause-added
+returns-in_err-headers-clause-added c = IfOk-from_err _ _ c.from_residual.ensures.0
+
+pub returns-in_err-headers-clause-kept : goal.returns-in_err-headers-clause-kept
+returns-in_err-headers-clause-kept c = keeps_then _ _ _ c.loop-outer.invariant.kept c.in_err-headers.ensures.kept
+
+pub returns-in_err-push-clause-added : goal.returns-in_err-push-clause-added
+returns-in_err-push-clause-added c = IfOk-from_err _ _ c.from_residual-in_err-push.ensures.0
+
+pub returns-in_err-push-clause-kept : goal.returns-in_err-push-clause-kept
+returns-in_err-push-clause-kept c = keeps_then _ _ _ c.loop-outer.invariant.kept c.in_ok-headers.ensures.kept
