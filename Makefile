@@ -1,5 +1,5 @@
 # make install, make uninstall: the proved programs with their manual pages and completions, below PREFIX (with DESTDIR before it), from
-# the tree, where they have to be built (./review, ./rollout, ./view, ./doctor), or from an unpacked release; and window, which runs them.
+# the tree, where they have to be built (./review, ./rollout, ./view, ./doctor), or from an unpacked release; and window, which runs them, and wire.
 # PROGRAM_PREFIX stands before the programs' names, for a machine that has other programs of these names.
 PREFIX = /usr/local
 DESTDIR =
@@ -39,13 +39,22 @@ install:
 	install -m 644 man/window.1 '$(to)/share/man/man1/$(PROGRAM_PREFIX)window.1'
 	sed 's/^complete .*/complete -F _diqenyu $(PROGRAM_PREFIX)window/' completions/diqenyu.bash >'$(bash)/$(PROGRAM_PREFIX)window'
 	sed '1s/.*/#compdef $(PROGRAM_PREFIX)window=window/' completions/_diqenyu >'$(zsh)/_$(PROGRAM_PREFIX)window'
+	install -m 755 wire '$(inside)/'
+	install -d '$(inside)/wiring/templates' '$(inside)/preparing'
+	install -m 644 wiring/*.py '$(inside)/wiring/'
+	install -m 644 wiring/templates/* '$(inside)/wiring/templates/'
+	install -m 644 preparing/*.py '$(inside)/preparing/'
+	ln -sfn ../lib/diqenyu/wire '$(to)/bin/$(PROGRAM_PREFIX)wire'
+	install -m 644 man/wire.1 '$(to)/share/man/man1/$(PROGRAM_PREFIX)wire.1'
+	sed 's/^complete .*/complete -F _diqenyu $(PROGRAM_PREFIX)wire/' completions/diqenyu.bash >'$(bash)/$(PROGRAM_PREFIX)wire'
+	sed '1s/.*/#compdef $(PROGRAM_PREFIX)wire=wire/' completions/_diqenyu >'$(zsh)/_$(PROGRAM_PREFIX)wire'
 	install -m 644 man/diqenyu.7 '$(to)/share/man/man7/diqenyu.7'
 	install -m 644 README.md docs/*.md docs/*.png '$(pages)/'
 	if [ -e RELEASE ]; then install -m 644 RELEASE SOURCES PROGRAMS '$(pages)/'; fi
 	cp -R examples '$(pages)/'
 
 uninstall:
-	for name in $(NAMES) window; do \
+	for name in $(NAMES) window wire; do \
 	    rm -f "$(to)/bin/$(PROGRAM_PREFIX)$$name" "$(to)/share/man/man1/$(PROGRAM_PREFIX)$$name.1" \
 	        "$(bash)/$(PROGRAM_PREFIX)$$name" "$(zsh)/_$(PROGRAM_PREFIX)$$name"; \
 	done

@@ -1,4 +1,4 @@
-# Completions of review, rollout, view, doctor and window for bash: commands, options, files, and for trace the devices and interfaces of the folder
+# Completions of review, rollout, view, doctor, window and wire for bash: commands, options, files, and for trace the devices and interfaces of the folder
 # that the line names. `source completions/diqenyu.bash` for one shell; `make install` for all.
 
 # The hostnames of a folder's configurations, and the interfaces of one device.
@@ -24,7 +24,7 @@ _diqenyu() {
         it=${COMP_WORDS[at]}
         case $only$it in
             --) only=' ' ;;
-            --workers | --ttl | --newlinks | --questions | --page | --title) at=$((at + 1)) ;;
+            --workers | --ttl | --newlinks | --questions | --page | --title | --neighbors | --check | --active) at=$((at + 1)) ;;
             --*) ;;
             *) given+=("${it/#\~/$HOME}") ;;
         esac
@@ -33,7 +33,7 @@ _diqenyu() {
     if [ -z "$only" ]; then
         case ${COMP_WORDS[COMP_CWORD - 1]} in
             --workers | --ttl | --title) return ;;
-            --newlinks | --questions | --page) files=1 ;;
+            --newlinks | --questions | --page | --neighbors | --check | --active) files=1 ;;
         esac
     fi
     case ${1##*/} in
@@ -62,6 +62,11 @@ _diqenyu() {
             options=--all
             [ "${#given[@]}" = 0 ] && options='--all --help --version'
             ;;
+        *wire)
+            [ "${#given[@]}" -lt 1 ] && files=1
+            options='--neighbors --check --active'
+            [ "${#given[@]}" = 0 ] && options="$options --help --version"
+            ;;
         *window)
             [ "${#given[@]}" -lt 3 ] && files=1
             options='--newlinks --questions --page --title'
@@ -85,4 +90,4 @@ _diqenyu() {
         mapfile -t COMPREPLY < <(compgen -W "$words" -- "$word")
     fi
 }
-complete -F _diqenyu review rollout view doctor window
+complete -F _diqenyu review rollout view doctor window wire

@@ -23,6 +23,10 @@ from .route_tables import read_routes
 from .texts import PAGER, read_lines, says_something
 
 COMMANDS = (("show running-config", "configs/%s.cfg"), ("show ip route", "routes/%s.txt"))
+# What `wire --neighbors` reads: the answers of one device stand in one file, each behind a line with its command. A device may refuse any.
+NEIGHBOR_COMMANDS = ("show cdp neighbors detail", "show lldp neighbors detail", "show standby brief", "show vrrp brief", "show glbp brief")
+NEIGHBORS = "neighbors/%s.txt"
+REFUSED = ("% Invalid input", "% Ambiguous", "% Authorization", "% Incomplete")
 USUAL_TYPE = "cisco_ios"
 AT_ONCE = 10
 NAME = re.compile(r"[A-Za-z0-9_][A-Za-z0-9_.-]*")
@@ -142,9 +146,26 @@ def answer_of(text, command, ends):
     return rest
 
 
+def is_refused(text):
+    """Whether a device doesn't take a command."""
+    return any(mark in text for mark in REFUSED)
+
+
+def neighbors_text(target, session, seconds):
+    """What a device says of its neighbours and groups: each answer behind its command; those that it refuses or doesn't run are left out."""
+    texts = []
+    for command in NEIGHBOR_COMMANDS:
+        text = ask(session, command, seconds)
+        if is_refused(text) or "is not enabled" in text or not text.strip():
+            continue
+        check_whole(target, command, text)
+        texts.append("%s#%s\n%s" % (target.name, command, text))
+    return "".join(texts)
+
+
 def check_whole(target, command, text):
     """Refuses an answer that isn't whole, or that the device gave in place of what was asked."""
-    if "% Invalid input" in text or "% Ambiguous" in text or "% Authorization" in text or "% Incomplete" in text:
+    if is_refused(text):
         raise Unreached(target.name, "it refuses %s" % command)
     if "\x08" in text or PAGER.search(text):
         raise Unreached(target.name, "the pages of %s could not be put together" % command)
@@ -187,6 +208,9 @@ def fetch(target, access):
             text = ask(session, command, access.seconds)
             check_whole(target, command, text)
             answers.append((path % target.name, text.encode("ascii", "surrogateescape")))
+        neighbors = neighbors_text(target, session, access.seconds)
+        if neighbors:
+            answers.append((NEIGHBORS % target.name, neighbors.encode("ascii", "surrogateescape")))
         return answers
     except Unreached as fault:
         raise Unreached(target.name, fault.reason) from None

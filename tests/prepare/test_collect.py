@@ -31,7 +31,8 @@ class Collecting(helpers.Folders):
             self.routes = file.read()
 
     def answers(self, **changed):
-        return {"show running-config": changed.get("running", self.running), "show ip route": changed.get("routes", self.routes)}
+        given = {"show running-config": changed.get("running", self.running), "show ip route": changed.get("routes", self.routes)}
+        return given | changed.get("more", {})
 
     def routers(self, *kinds, known=True):
         """Fake routers, one for each pair of answers and a behaviour, with the inventory and the file of known hosts."""
@@ -55,6 +56,16 @@ class Collecting(helpers.Folders):
             for path, wanted in (("configs/%s.cfg", self.running), ("routes/%s.txt", self.routes)):
                 with open(self.path("out", path % name), "rb") as file:
                     self.assertEqual(file.read(), wanted, name)
+
+    def test_neighbors(self):
+        """What a device says of neighbours stands in one file behind its commands; what it refuses or doesn't run is left out."""
+        seen = b"-------------------------\nDevice ID: R2\nInterface: Ethernet0,  Port ID (outgoing port): Ethernet1\n"
+        self.routers((self.answers(more={"show cdp neighbors detail": seen, "show lldp neighbors detail": b"% LLDP is not enabled\n"}),),
+                     (self.answers(),))
+        status, told = self.run_program("collect", "inventory", "out", environment=self.environment())
+        self.assertEqual(status, 0, told)
+        self.assertEqual(os.listdir(self.path("out", "neighbors")), ["R1.txt"])
+        self.assertEqual(self.read("out/neighbors/R1.txt").encode(), b"R1#show cdp neighbors detail\n" + seen)
 
     def test_devices_that_fail(self):
         """Each is named at the end, in one line, and nothing is written, also not of the one that answered."""

@@ -1,0 +1,1 @@
+"""The program `wire`: a link table of what configurations and neighbours say."""
