@@ -17,7 +17,7 @@ import sys
 import tempfile
 
 TOP = pathlib.Path(__file__).resolve().parent.parent
-PROGRAMS = ('./review', './rollout', './view', './doctor', './window', './launch', '$ ')
+PROGRAMS = ('./review', './rollout', './view', './doctor', './window', './wire', './launch', '$ ')
 # Statuses of a shell that could not run a command, of words outside the usage, and of a launcher that could not build.
 NOT_RUN = (2, 70, 126, 127)
 SECONDS = 120
