@@ -1,5 +1,5 @@
 -- What may stop a step of which nothing is refused, too long or absent.
-use Rattle.std.proofs.Common.{◌≡◌, inl, inr, ℕ, ◌<◌, ◌≤◌, List, length, sym, subst, arith}
+use Rattle.std.proofs.Common.{◌≡◌, inl, inr, ℕ, ◌<◌, List, length, sym, subst, arith}
 use Rattle.std.specs.Prelude.{Option, Some, None, Result, Ok, Err, IsSomeAnd}
 use Rattle.net_types.specs.declared.config.Loaded.{Loaded}
 use Rattle.net_io.specs.Limits.{file_limit}

@@ -1,15 +1,14 @@
 -- How a run ends: what the report and its status say, and what a stop and its status say.
-use Rattle.std.proofs.Common.{◌≡◌, ◌≢◌, ◌⊎◌, inl, inr, ℕ, ◌≤◌, ◌++◌, true, false, cond, List, Option, Some, None, Result, Ok, Err, IfSome, refl, sym, ap, subst, ◌∙◌, arith}
-use Rattle.std.specs.Prelude.{IfErr, IfOk, option_map}
+use Rattle.std.proofs.Common.{◌≡◌, ◌≢◌, ◌⊎◌, inl, inr, ℕ, ◌≤◌, true, false, cond, List, Option, Some, None, Result, Ok, Err, IfSome, refl, sym, ap, subst, ◌∙◌, arith}
+use Rattle.std.specs.Prelude.{IfErr, IfOk}
 use Rattle.net_io.specs.Faults.{Rose, Faultless, IsLast}
 use Rattle.net_io.specs.Files.{Told}
-use Rattle.net_io.specs.Sink.{TookPrefix}
 use Rattle.job_core.specs.declared.report.Report.{Report}
 use Rattle.job_core.specs.declared.stop.Stop.{Stop}
 use Rattle.job_core.specs.declared.stop.Stop.TheVariants as stop
 use Rattle.job_core.specs.Accepted.{MayAlwaysStop}
 use Rattle.job_core.specs.Causes.{FaultRose, HasCause, NamesLast}
-use Rattle.job_core.specs.Endings.{FilesOver, SinkOver, Said, Tells, Wrote, WrotePart, StoppedWith, WritesReport, Finishes, Ends, status_of_report}
+use Rattle.job_core.specs.Endings.{FilesOver, SinkOver, Said, Tells, Wrote, StoppedWith, WritesReport, Finishes, Ends, status_of_report}
 use Rattle.job_core.specs.Lines.{no_memory_text}
 use Rattle.job_core.specs.Stops.{status_of, line_of, cannot_read_line}
 
