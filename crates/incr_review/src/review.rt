@@ -102,8 +102,8 @@ impl<'a> Review<'a> {
 
     /// Edits the edited network. The regions whose headers don't visit the edit's device stand first afterwards, unchanged and
     /// in their order. Of the headers of the others those whose moves the edit may change are walked again, those of one ingress
-    /// and one old label together. On any refusal, want of memory included, the review is as before, but that its table may have
-    /// more functions.
+    /// and one old label together. A refused edit leaves the review as it was; so does want of memory, but that the table may
+    /// have more functions.
     ///
     /// # Errors
     ///
@@ -121,6 +121,7 @@ impl<'a> Review<'a> {
         ensures walked { IfOk result (λ t. t.kept + t.walked ≡ length self.old.regions) }
         ensures refused { IfErr result (IsFailOf (edited edit.now self.old.edited)) }
         ensures as_before { OnErr result (self.new ≡ record self.old { table = self.new.table }) }
+        ensures untouched { IfErr result (λ e. (e ≡ EditFail.NoMemory → ⊥) → self.new ≡ self.old) }
     {
         let changed = edited_device(alloc, &self.edited, edit)?;
         let old = swap_device(alloc, &mut self.edited, changed);
