@@ -1,8 +1,8 @@
 -- What is odd in a configuration, as a whole list: first of each interface, then of each access list, then of its entries,
 -- then of each written route, then of address translation. The rules of what becomes of a packet are those of access lists,
 -- static routes and static translation (IOS); what is odd is this product's choice.
-use Rattle.std.specs.Prelude.{ℕ, zero, suc, Bool, false, true, not, ◌&&◌, ◌||◌, ◌==◌, List, [], ◌∷◌, ◌++◌, filter, flat_map, fold, map, length, Option, Some, None, is_some, nat_eq, nat_lt, if◌then◌else◌}
-use Rattle.std.specs.List.{list_any}
+use Rattle.std.specs.Prelude.{ℕ, zero, suc, Bool, false, true, not, ◌&&◌, ◌||◌, ◌==◌, List, [], ◌∷◌, ◌++◌, filter, flat_map, fold, map, length, slice_get, Option, Some, None, is_some, nat_eq, nat_lt, if◌then◌else◌}
+use Rattle.std.specs.List.{list_any, starts_with}
 use Rattle.std.specs.Str.{bytes_eq}
 use Rattle.ios_words.specs.Words.{mask_length_of}
 use Rattle.net_types.specs.declared.config.AccessList.{AccessList}
@@ -18,7 +18,8 @@ use Rattle.net_types.specs.declared.config.RouteExit.{RouteExit}
 use Rattle.net_types.specs.declared.config.RouteExit.TheVariants as exit
 use Rattle.net_types.specs.declared.config.Side.{Side}
 use Rattle.net_types.specs.declared.config.Side.TheVariants.{Neither, Inside, Outside}
-use Rattle.net_types.specs.Moves.{list_named, is_inside, is_outside}
+use Rattle.net_types.specs.declared.config.Subnet.{Subnet}
+use Rattle.net_types.specs.Moves.{list_named, is_dropped, is_inside, is_outside}
 use Rattle.net_types.specs.Routes.{same_text, same_prefix, holds, route_holds, live_subnets, is_enabled, is_own, interface_named, installed}
 use Rattle.config_checks.specs.declared.finding.AddressField.{AddressField}
 use Rattle.config_checks.specs.declared.finding.AddressField.TheVariants.{Source, Destination}
@@ -47,8 +48,34 @@ abbrev pub named_for : Interface → Direction → Option (List ℕ)
 named_for i Input = i.input
 named_for i Output = i.output
 
+-- ---- interfaces that are shut above their subinterfaces
+
+abbrev pub is_dot : Option ℕ → Bool
+is_dot None = false
+is_dot (Some b) = b == 46
+
+-- the name of a subinterface: that of its main interface, a dot, a number (IOS: interface type number.subinterface)
+abbrev pub is_below : List ℕ → List ℕ → Bool
+is_below main name = starts_with nat_eq name main && is_dot (slice_get name (length main))
+
+-- a subinterface that isn't shut itself
+abbrev pub is_open_below : List ℕ → Interface → Bool
+is_open_below main i = is_below main i.name && not i.shut
+
+abbrev pub shut_above : List ℕ → Interface → List ConfigFinding
+shut_above main i = told (is_open_below main i) (finding.ShutAbove main i.name)
+
+-- a router takes the subinterfaces of a shut interface down (IOS: shutdown); the rules of this product take each as it is written
+abbrev pub shut_findings : Config → Interface → List ConfigFinding
+shut_findings c i = if i.shut then flat_map (shut_above i.name) c.interfaces else []
+
+-- ---- all of an interface
+
 abbrev pub interface_findings : Config → Interface → List ConfigFinding
-interface_findings c i = named_findings c i.name Input i.input ++ named_findings c i.name Output i.output
+interface_findings c i =
+    named_findings c i.name Input i.input
+    ++ named_findings c i.name Output i.output
+    ++ shut_findings c i
 
 -- ---- lists that decide nothing
 
@@ -131,14 +158,28 @@ abbrev pub is_beyond : ℕ → Option Interface → Bool
 is_beyond n None = false
 is_beyond n (Some i) = is_enabled i && not (list_any (λ s. holds s n) (live_subnets i))
 
+-- the subnet has room for more than two routers
+abbrev pub has_many : Subnet → Bool
+has_many s = nat_lt s.length 30
+
+-- the interface is IP-enabled and has such a subnet: neighbours answer there for what lies behind them (RFC 1027, proxy ARP)
+abbrev pub is_over_many : Option Interface → Bool
+is_over_many None = false
+is_over_many (Some i) = list_any has_many (live_subnets i)
+
+-- an address that no neighbour has: one of the device itself, or one to which the device drops every packet
+abbrev pub address_findings : Config → Subnet → ℕ → List ConfigFinding → List ConfigFinding
+address_findings c p next others =
+    if is_own c next then finding.NextIsOwn p next ∷ []
+    else (if is_dropped c next then finding.NextIsBroadcast p next ∷ [] else others)
+
 abbrev pub exit_findings : Config → List Route → Route → RouteExit → List ConfigFinding
 exit_findings c found r exit.Null = []
-exit_findings c found r (exit.Port name) = []
+exit_findings c found r (exit.Port name) = told (is_over_many (interface_named c name)) (finding.PortAlone r.prefix name)
 exit_findings c found r (exit.Both name next) =
-    if is_own c next then finding.NextIsOwn r.prefix next ∷ []
-    else told (is_beyond next (interface_named c name)) (finding.NextElsewhere r.prefix name next)
+    address_findings c r.prefix next (told (is_beyond next (interface_named c name)) (finding.NextElsewhere r.prefix name next))
 exit_findings c found r (exit.Next next) =
-    if is_own c next then finding.NextIsOwn r.prefix next ∷ [] else lookup_findings c.routes r next (longest found next)
+    address_findings c r.prefix next (lookup_findings c.routes r next (longest found next))
 
 -- of a written route, where these are the installed ones
 abbrev pub route_findings : Config → List Route → Route → List ConfigFinding

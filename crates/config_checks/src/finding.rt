@@ -80,6 +80,23 @@ pub enum ConfigFinding {
         distance: u8,
         next: u32,
     },
+    /// The next hop of a route is an address to which the device drops every packet, a multicast or reserved address or a
+    /// broadcast of a subnet of its own: no neighbour has it.
+    NextIsBroadcast {
+        prefix: Subnet,
+        next: u32,
+    },
+    /// A route names an interface alone, and the interface has a subnet with room for more than two routers: who answers there
+    /// for the destination takes the packet.
+    PortAlone {
+        prefix: Subnet,
+        interface: Text,
+    },
+    /// An interface is shut and a subinterface of it isn't: a router takes that down too.
+    ShutAbove {
+        main: Text,
+        below: Text,
+    },
     /// There are rules of translation, and no IP-enabled interface is inside: no packet is translated from inside.
     NoInside,
     /// There are rules of translation, and no IP-enabled interface is outside: no packet is translated.

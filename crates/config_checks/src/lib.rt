@@ -10,6 +10,7 @@ mod finding;
 mod held;
 mod lists;
 mod routes;
+mod shut;
 mod translation;
 
 pub use checks::config_findings;

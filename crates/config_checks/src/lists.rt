@@ -17,6 +17,7 @@ ghost use Rattle.config_checks.specs.Findings.{
   wildcard_findings,
 };
 
+use crate::shut::check_shut;
 use crate::{AddressField, ConfigFinding, Direction};
 use ios_words::mask_length;
 use net_types::{AccessList, Config, Duplicate, Entry, Interface, Masked, NoMemory, Text};
@@ -24,7 +25,7 @@ use net_view::{list_named, same_text};
 use std::alloc::Global;
 use topo_links::NameIndex;
 
-/// What is odd in the lists that an interface names.
+/// What is odd in the lists that an interface names, and in what is below it where it is shut.
 pub fn check_interface(
     alloc: Global,
     config: &Config,
@@ -34,7 +35,8 @@ pub fn check_interface(
     ensures { OnOk result (found.new.items ≡ found.old.items ++ interface_findings config.now interface.now) }
 {
     check_named(alloc, config, interface, Direction::Input, found)?;
-    check_named(alloc, config, interface, Direction::Output, found)
+    check_named(alloc, config, interface, Direction::Output, found)?;
+    check_shut(alloc, config, interface, found)
 }
 
 /// The list that an interface names for a direction.

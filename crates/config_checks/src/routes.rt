@@ -12,6 +12,8 @@ ghost use Rattle.config_checks.specs.Findings.{
   never_floats,
   lookup_findings,
   is_beyond,
+  has_many,
+  is_over_many,
   exit_findings,
   route_findings,
 };
@@ -20,6 +22,7 @@ ghost use Rattle.config_checks.specs.Held.{IsKnown};
 use crate::ConfigFinding;
 use crate::backups::Backups;
 use crate::held::Held;
+use header_rules::is_dropped;
 use net_types::{Config, Duplicate, Interface, NoMemory, Route, RouteExit, Subnet, Text};
 use net_view::{holds, interface_named, is_enabled, is_own};
 use std::alloc::Global;
@@ -98,7 +101,7 @@ impl<'a> Lookups<'a> {
     {
         match &route.exit {
             RouteExit::Null => Ok(()),
-            RouteExit::Port { name: _ } => Ok(()),
+            RouteExit::Port { name } => self.check_port(alloc, route.prefix, name, found),
             RouteExit::Both { name, next } => self.check_both(
                 alloc,
                 route.prefix,
@@ -108,6 +111,25 @@ impl<'a> Lookups<'a> {
             ),
             RouteExit::Next { next } => self.check_next(route, *next, found),
         }
+    }
+
+    /// An interface alone.
+    fn check_port(
+        &self,
+        alloc: Global,
+        prefix: Subnet,
+        name: &Text,
+        found: &mut Vec<ConfigFinding>,
+    ) -> Result<(), NoMemory>
+        ensures { (rs : List Route) (r : Route) → r.prefix ≡ prefix → OnOk result (found.new.items ≡ found.old.items ++ exit_findings self.now.config.now rs r (RouteExit.Port name.now)) }
+    {
+        if is_over_many(interface_named(self.config, name.as_bytes())) {
+            found.push(ConfigFinding::PortAlone {
+                prefix,
+                interface: name.copy(alloc)?,
+            })?;
+        }
+        Ok(())
     }
 
     /// A next hop alone.
@@ -120,9 +142,13 @@ impl<'a> Lookups<'a> {
         requires { IsKnown self.now }
         ensures { OnOk result (found.new.items ≡ found.old.items ++ exit_findings self.now.config.now (installed self.now.config.now) route.now (RouteExit.Next next)) }
     {
+        let prefix = route.prefix;
         if is_own(self.config, next) {
-            let prefix = route.prefix;
             found.push(ConfigFinding::NextIsOwn { prefix, next })?;
+            return Ok(());
+        }
+        if is_dropped(self.config, next) {
+            found.push(ConfigFinding::NextIsBroadcast { prefix, next })?;
             return Ok(());
         }
         self.check_lookup(route, next, found)
@@ -141,6 +167,10 @@ impl<'a> Lookups<'a> {
     {
         if is_own(self.config, next) {
             found.push(ConfigFinding::NextIsOwn { prefix, next })?;
+            return Ok(());
+        }
+        if is_dropped(self.config, next) {
+            found.push(ConfigFinding::NextIsBroadcast { prefix, next })?;
             return Ok(());
         }
         if is_beyond(next, interface_named(self.config, name.as_bytes())) {
@@ -195,6 +225,36 @@ pub fn has_subnet_of(interface: &Interface, address: u32) -> bool
     match &interface.primary {
         Some(s) => holds(s, address) || any_holds(interface.secondary.as_slice(), address),
         None => any_holds(interface.secondary.as_slice(), address),
+    }
+}
+
+/// Whether one of the subnets has room for more than two routers.
+fn any_has_many(subnets: &[Subnet]) -> bool
+    ensures { result ≡ list_any has_many subnets.now }
+{
+    subnets.iter().any(|s| s.length < 30)
+}
+
+/// Whether a subnet of an interface has room for more than two routers, where the interface isn't shut.
+fn has_many_of(interface: &Interface) -> bool
+    ensures { result ≡ list_any has_many (live_subnets interface.now) }
+{
+    if interface.shut {
+        return false;
+    }
+    match &interface.primary {
+        Some(s) => s.length < 30 || any_has_many(interface.secondary.as_slice()),
+        None => any_has_many(interface.secondary.as_slice()),
+    }
+}
+
+/// Whether there is such an interface.
+fn is_over_many(interface: Option<&Interface>) -> bool
+    ensures { result ≡ is_over_many (option_copied interface.entry) }
+{
+    match interface {
+        None => false,
+        Some(interface) => has_many_of(interface),
     }
 }
 

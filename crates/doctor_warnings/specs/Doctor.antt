@@ -1,5 +1,5 @@
 -- All that is told of one network or two: the warnings, the limits of the model that are met, and the lines that are passed over.
-use Rattle.std.specs.Prelude.{◌≡◌, List, ◌++◌, Option, Some, None}
+use Rattle.std.specs.Prelude.{◌≡◌, List, ◌++◌, filter, Option, Some, None}
 use Rattle.net_types.specs.declared.config.Loaded.{Loaded}
 use Rattle.doctor_warnings.specs.declared.limit.Limit.{Limit}
 use Rattle.doctor_warnings.specs.declared.network.Notes.{Notes}
@@ -10,8 +10,8 @@ use Rattle.doctor_warnings.specs.declared.network.Texts.{Texts}
 use Rattle.doctor_warnings.specs.declared.warning.Warning.{Warning}
 use Rattle.doctor_warnings.specs.declared.wiring.Wiring.{Wiring}
 use Rattle.doctor_warnings.specs.declared.wiring.Wiring.TheVariants as wiring
-use Rattle.doctor_warnings.specs.Warnings.{folder_warnings}
-use Rattle.doctor_warnings.specs.Limits.{refused_limits}
+use Rattle.doctor_warnings.specs.Warnings.{folder_warnings, is_warning}
+use Rattle.doctor_warnings.specs.Limits.{counted_limits}
 use Rattle.doctor_warnings.specs.Listed.{listed}
 use Rattle.doctor_warnings.specs.Tables.{both_of, devices_of, table_limits, table_warnings}
 
@@ -38,9 +38,12 @@ abbrev pub warnings_by : Texts → Option Texts → Tables → List Warning
 warnings_by old None tables = warnings_alone old tables
 warnings_by old (Some new) tables = warnings_of_both old new tables
 
--- *the warnings*
+abbrev pub found : Subject → List Warning
+found s = warnings_by s.old s.new s.tables
+
+-- *the warnings*: of what is found all but the lines on which the way of no packet depends, which are only counted
 abbrev pub warnings : Subject → List Warning
-warnings s = warnings_by s.old s.new s.tables
+warnings s = filter is_warning (found s)
 
 -- ---- the limits of the model that the networks meet
 
@@ -57,9 +60,9 @@ abbrev pub wired_limits : Texts → Option Texts → Tables → List Limit
 wired_limits old None tables = tables_limits wiring.Alone (devices_of old.files) (devices_of old.files) tables
 wired_limits old (Some new) tables = tables_limits wiring.Both (devices_of old.files) (devices_of new.files) tables
 
--- *the limits*: by what is refused, and then by the links
+-- *the limits*: by what is refused and what is only counted, and then by the links
 abbrev pub limits : Subject → List Limit
-limits s = refused_limits (warnings s) ++ wired_limits s.old s.new s.tables
+limits s = counted_limits (found s) ++ wired_limits s.old s.new s.tables
 
 -- everything that is told of the networks
 pub record AreNotes (s : Subject) (n : Notes) : Type 0 where

@@ -1,5 +1,5 @@
 -- How notes are written: a line each, with the file and the line first, or counted.
-use Rattle.std.specs.Prelude.{◌≡◌, ℕ, Bool, true, false, ◌==◌, List, [], ◌∷◌, ◌++◌, map, length, Option, Some, None, slice_get, codes, decimal, if◌then◌else◌}
+use Rattle.std.specs.Prelude.{◌≡◌, ℕ, Bool, true, false, ◌||◌, ◌==◌, nat_lt, List, [], ◌∷◌, ◌++◌, map, length, Option, Some, None, slice_get, codes, decimal, if◌then◌else◌}
 use Rattle.std.specs.List.{flat_map}
 use Rattle.look_alikes.specs.declared.look.LookAlike.{LookAlike}
 use Rattle.look_alikes.specs.declared.look.LookAlike.TheVariants as look
@@ -45,6 +45,7 @@ look_text (look.Like c) = codes "looks like " ++ command_text c
 abbrev pub reason_text : Reason → List ℕ
 reason_text (reason.Looks l) = codes "passed over, " ++ look_text l
 reason_text reason.OnlyHere = codes "passed over, only in this folder"
+reason_text reason.Idle = codes "passed over, and no packet depends on it"
 
 abbrev pub refused_text : List ℕ → List ℕ → List ℕ → List ℕ
 refused_text kind word text = codes "refused " ++ kind ++ shown_word word ++ shown_behind text
@@ -76,14 +77,23 @@ count_text n path line = codes " (" ++ decimal n ++ codes "), first " ++ place_t
 abbrev pub kind_text : LimitKind → List ℕ
 kind_text limit.Ethernet = codes ": a packet to an unused address of the subnet, as its first one, goes to and fro until it expires; GUIDE.md, section 7"
 kind_text limit.Prepared = codes ": refused; prepare brings it into what is read; GUIDE.md, section 15"
+kind_text limit.Idle = codes ": passed over, and not compared"
 kind_text limit.Refused = codes ": refused, since it isn't in the model; GUIDE.md, section 14"
 
-abbrev pub limit_by : Tally → Option Limit → List ℕ
-limit_by r None = []
-limit_by r (Some l) = codes "limit: " ++ shown r.text ++ count_text r.count l.path l.line ++ kind_text l.kind ++ 10 ∷ []
+abbrev pub is_idle : LimitKind → Bool
+is_idle limit.Idle = true
+is_idle _ = false
 
-abbrev pub limit_line : List Limit → Tally → List ℕ
-limit_line ls r = limit_by r (slice_get ls r.first)
+abbrev pub limit_text : Tally → Limit → List ℕ
+limit_text r l = codes "limit: " ++ shown r.text ++ count_text r.count l.path l.line ++ kind_text l.kind ++ 10 ∷ []
+
+-- limits of the model are told where they are asked for; how many lines no packet depends on is told always
+abbrev pub limit_by : Bool → Tally → Option Limit → List ℕ
+limit_by asked r None = []
+limit_by asked r (Some l) = if asked || is_idle l.kind then limit_text r l else []
+
+abbrev pub limit_line : Bool → List Limit → Tally → List ℕ
+limit_line asked ls r = limit_by asked r (slice_get ls r.first)
 
 -- ---- lines that are passed over
 
@@ -99,17 +109,15 @@ listed_line l = head_text l.path l.line ++ codes "passed over" ++ shown_behind l
 
 -- ---- all together
 
--- limits are told where there is a warning, or all is asked for
-abbrev pub limits_text : Bool → List Warning → List ℕ → List ℕ
-limits_text true ws text = text
-limits_text false [] text = []
-limits_text false (w ∷ ws) text = text
+-- limits are asked for by a warning, or where all is
+abbrev pub are_asked : Bool → List Warning → Bool
+are_asked all ws = all || nat_lt 0 (length ws)
 
 -- the warnings, the limits, the lines that are passed over, first as they are counted; and how many warnings there are
 abbrev pub notes_text : Bool → Notes → List Tally → List Tally → List ℕ
 notes_text all n limits lines =
     flat_map warning_line n.warnings
-    ++ limits_text all n.warnings (flat_map (limit_line n.limits) limits)
+    ++ flat_map (limit_line (are_asked all n.warnings) n.limits) limits
     ++ flat_map (counted_line n.lines) lines
     ++ flat_map listed_line n.lines
     ++ codes "warnings " ++ decimal (length n.warnings) ++ 10 ∷ []

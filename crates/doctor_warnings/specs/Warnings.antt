@@ -8,6 +8,7 @@ use Rattle.ios_lines.specs.declared.fault.Refusal.{Refusal}
 use Rattle.ios_lines.specs.Kinds.{kind_text}
 use Rattle.ios_config.specs.Reads.{effects, refusal}
 use Rattle.look_alikes.specs.declared.look.LookAlike.{LookAlike}
+use Rattle.look_alikes.specs.Idle.{is_idle}
 use Rattle.look_alikes.specs.LookAlikes.{look_alike}
 use Rattle.config_checks.specs.declared.finding.ConfigFinding.{ConfigFinding}
 use Rattle.config_checks.specs.Findings.{config_findings}
@@ -19,7 +20,7 @@ use Rattle.doctor_warnings.specs.declared.warning.Reason.TheVariants as reason
 use Rattle.doctor_warnings.specs.declared.warning.Warning.{Warning}
 use Rattle.doctor_warnings.specs.declared.warning.Warning.TheVariants as warning
 use Rattle.doctor_warnings.specs.Lines.{line_at, nth_line, trimmed}
-use Rattle.doctor_warnings.specs.Told.{key, keys, passed_words, told_lines, told_text}
+use Rattle.doctor_warnings.specs.Told.{heading, key, keys, passed_words, told_lines, told_text}
 use Rattle.doctor_warnings.specs.Readings.{config_by}
 
 -- ---- lines that are passed over
@@ -43,9 +44,19 @@ reason_by None false = None
 abbrev pub reason_of : Option (List (List ℕ)) → List (List ℕ) → List ℕ → ToldLine → Option Reason
 reason_of others before bytes t = reason_by (look_of bytes t) (is_only_here others before (key bytes t))
 
+-- the way of no packet depends on the line
+abbrev pub is_idle_line : List ℕ → ToldLine → Bool
+is_idle_line bytes t = is_idle t.mode (heading bytes t.mode t.under) (told_text bytes t)
+
+-- of a line of one folder alone it is told apart whether the way of a packet may depend on it
+abbrev pub reason_in : List ℕ → ToldLine → Reason → Reason
+reason_in bytes t (reason.Looks look) = reason.Looks look
+reason_in bytes t reason.OnlyHere = if is_idle_line bytes t then reason.Idle else reason.OnlyHere
+reason_in bytes t reason.Idle = reason.Idle
+
 abbrev pub passed_by : List ℕ → List ℕ → ToldLine → Option Reason → List Warning
 passed_by path bytes t None = []
-passed_by path bytes t (Some r) = warning.Passed path t.number r (told_text bytes t) ∷ []
+passed_by path bytes t (Some r) = warning.Passed path t.number (reason_in bytes t r) (told_text bytes t) ∷ []
 
 -- what is told of lines one after the other, behind lines of these keys
 abbrev pub passed_behind : Option (List (List ℕ)) → List ℕ → List ℕ → List (List ℕ) → List ToldLine → List Warning
@@ -134,6 +145,18 @@ taken_by folder f (Some first) = warning.HostTaken (path_in folder f.name) (path
 abbrev pub taken_behind : List ℕ → List TextFile → List TextFile → List Warning
 taken_behind folder before [] = []
 taken_behind folder before (f ∷ fs) = taken_by folder f (first_host before (host_in f)) ++ taken_behind folder (before ++ f ∷ []) fs
+
+-- ---- what is counted, and no warning by itself
+
+abbrev pub is_reason : Reason → Bool
+is_reason (reason.Looks look) = true
+is_reason reason.OnlyHere = true
+is_reason reason.Idle = false
+
+-- a line on which the way of no packet depends is no warning
+abbrev pub is_warning : Warning → Bool
+is_warning (warning.Passed path n r text) = is_reason r
+is_warning _ = true
 
 -- ---- all together
 

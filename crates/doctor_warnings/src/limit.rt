@@ -1,8 +1,8 @@
-//! Limits of the model that a network meets.
+//! What is counted: limits of the model that a network meets, and lines on which the way of no packet depends.
 ghost use Rattle.std.specs.Prelude.{◌≡◌, ◌++◌, IfOk, OnOk, filter_map, option_to_list};
-ghost use Rattle.doctor_warnings.specs.Limits.{limit_at, limit_of, refused_kind, refused_limits};
+ghost use Rattle.doctor_warnings.specs.Limits.{counted_limits, idle_at, limit_at, limit_of, refused_kind};
 
-use crate::warning::Warning;
+use crate::warning::{Reason, Warning};
 use look_alikes::{is_prepared, refused_by};
 use net_types::{Duplicate, NoMemory, Text};
 use std::alloc::Global;
@@ -12,6 +12,8 @@ use std::alloc::Global;
 pub enum LimitKind {
     /// A packet goes to and fro on a link where a network would drop it.
     Ethernet,
+    /// Nothing: the way of no packet depends on it.
+    Idle,
     /// It is refused, and `prepare` brings it into what is read.
     Prepared,
     /// It is refused.
@@ -39,9 +41,9 @@ impl Drop for Limit {
     }
 }
 
-/// Those of what is refused.
-pub(crate) fn refused_limits(alloc: Global, warnings: &[Warning]) -> Result<Vec<Limit>, NoMemory>
-    ensures { IfOk result (λ limits. limits.items ≡ refused_limits warnings.now) }
+/// Those of what is refused, and of lines on which the way of no packet depends.
+pub(crate) fn counted_limits(alloc: Global, warnings: &[Warning]) -> Result<Vec<Limit>, NoMemory>
+    ensures { IfOk result (λ limits. limits.items ≡ counted_limits warnings.now) }
 {
     let mut limits = Vec::new(alloc);
     for warning in warnings {
@@ -73,6 +75,12 @@ fn limit_of(alloc: Global, warning: &Warning) -> Result<Option<Limit>, NoMemory>
             word,
             text,
         } => limit_at(alloc, path, *line, kind, word, text),
+        Warning::Passed {
+            path,
+            line,
+            reason,
+            text: _,
+        } => idle_at(alloc, path, *line, *reason),
         _ => Ok(None),
     }
 }
@@ -97,6 +105,25 @@ fn limit_at(
         words: Text::new(refused_by(alloc, text.as_bytes(), word.as_bytes())?),
         kind: refused_kind(word),
     }))
+}
+
+/// Where a line stands in one folder alone and the way of no packet depends on it.
+fn idle_at(alloc: Global, path: &Text, line: u64, reason: Reason) -> Result<Option<Limit>, NoMemory>
+    ensures { IfOk result (λ limit. limit ≡ idle_at path.now line reason) }
+{
+    match reason {
+        Reason::Looks { look: _ } => Ok(None),
+        Reason::OnlyHere => Ok(None),
+        Reason::Idle => Ok(Some(Limit {
+            path: path.copy(alloc)?,
+            line,
+            words: Text::copy_of(
+                alloc,
+                b"lines of one folder alone that no packet depends on, as descriptions and logins",
+            )?,
+            kind: LimitKind::Idle,
+        })),
+    }
 }
 
 fn refused_kind(word: &Text) -> LimitKind

@@ -4,7 +4,7 @@
 ghost use Rattle.std.specs.Prelude.{◌≡◌, ◌++◌, OnOk, slice_get};
 ghost use Rattle.std.specs.List.{flat_map};
 ghost use Rattle.std.specs.Option.{option_copied};
-ghost use Rattle.doctor_warnings.specs.Texts.{count_text, counted_if_any, counted_line, kind_text, limit_by, limit_line, limits_text, listed_line};
+ghost use Rattle.doctor_warnings.specs.Texts.{are_asked, count_text, counted_if_any, counted_line, is_idle, kind_text, limit_by, limit_line, limit_text, listed_line};
 
 use crate::heads::{append_behind, append_head, append_place};
 use crate::limit::{Limit, LimitKind};
@@ -15,26 +15,29 @@ use net_types::{NoMemory, Text};
 use report_text::{append, append_number};
 use text_tallies::Tally;
 
-/// The limits, where there is a warning or all is asked for.
-pub(crate) fn append_limits_if(
+/// The limits: all where there is a warning or all is asked for, else how many lines no packet depends on.
+pub(crate) fn append_notes_limits(
     out: &mut Vec<u8>,
     all: bool,
     notes: &Notes,
     rows: &[Tally],
 ) -> Result<(), NoMemory>
-    ensures { OnOk result (out.new.items ≡ out.old.items ++ limits_text all notes.now.warnings (flat_map (limit_line notes.now.limits) rows.now)) }
+    ensures { OnOk result (out.new.items ≡ out.old.items ++ flat_map (limit_line (are_asked all notes.now.warnings) notes.now.limits) rows.now) }
 {
-    if !all && notes.warnings.as_slice().is_empty() {
-        return Ok(());
-    }
-    append_limits(out, notes.limits.as_slice(), rows)
+    let asked = all || notes.warnings.as_slice().len() > 0;
+    append_limits(out, asked, notes.limits.as_slice(), rows)
 }
 
-fn append_limits(out: &mut Vec<u8>, limits: &[Limit], rows: &[Tally]) -> Result<(), NoMemory>
-    ensures { OnOk result (out.new.items ≡ out.old.items ++ flat_map (limit_line limits.now) rows.now) }
+fn append_limits(
+    out: &mut Vec<u8>,
+    asked: bool,
+    limits: &[Limit],
+    rows: &[Tally],
+) -> Result<(), NoMemory>
+    ensures { OnOk result (out.new.items ≡ out.old.items ++ flat_map (limit_line asked limits.now) rows.now) }
 {
     for row in rows {
-        append_limit(out, row, limit_in(limits, row.first))?;
+        append_limit_if(out, asked, row, limit_in(limits, row.first))?;
     }
     Ok(())
 }
@@ -45,13 +48,37 @@ fn limit_in(limits: &[Limit], place: usize) -> Option<&Limit>
     limits.get(place)
 }
 
-/// A limit, with how often it is met.
-fn append_limit(out: &mut Vec<u8>, row: &Tally, limit: Option<&Limit>) -> Result<(), NoMemory>
-    ensures { OnOk result (out.new.items ≡ out.old.items ++ limit_by row.now (option_copied limit.entry)) }
+/// A limit, where it is told.
+fn append_limit_if(
+    out: &mut Vec<u8>,
+    asked: bool,
+    row: &Tally,
+    limit: Option<&Limit>,
+) -> Result<(), NoMemory>
+    ensures { OnOk result (out.new.items ≡ out.old.items ++ limit_by asked row.now (option_copied limit.entry)) }
 {
-    let Some(limit) = limit else {
-        return Ok(());
-    };
+    match limit {
+        None => Ok(()),
+        Some(limit) => {
+            if asked || is_idle(limit.kind) {
+                append_limit(out, row, limit)
+            } else {
+                Ok(())
+            }
+        }
+    }
+}
+
+fn is_idle(kind: LimitKind) -> bool
+    ensures { result ≡ is_idle kind }
+{
+    matches!(kind, LimitKind::Idle)
+}
+
+/// A limit, with how often it is met.
+fn append_limit(out: &mut Vec<u8>, row: &Tally, limit: &Limit) -> Result<(), NoMemory>
+    ensures { OnOk result (out.new.items ≡ out.old.items ++ limit_text row.now limit.now) }
+{
     append(out, b"limit: ")?;
     append_shown(out, row.text.as_bytes())?;
     append_count(out, row.count, &limit.path, limit.line)?;
@@ -81,6 +108,7 @@ fn append_kind(out: &mut Vec<u8>, kind: LimitKind) -> Result<(), NoMemory>
             out,
             b": refused; prepare brings it into what is read; GUIDE.md, section 15",
         ),
+        LimitKind::Idle => append(out, b": passed over, and not compared"),
         LimitKind::Refused => append(
             out,
             b": refused, since it isn't in the model; GUIDE.md, section 14",

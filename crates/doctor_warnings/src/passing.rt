@@ -3,13 +3,13 @@ ghost use Rattle.std.specs.Prelude.{◌≡◌, ◌++◌, ◌∷◌, ◌<◌, ◌
 ghost use Rattle.text_tallies.specs.Tallies.{AreSeen};
 ghost use Rattle.doctor_warnings.specs.Beside.{IsBeside, IsJudged, IsMarked, IsTold};
 ghost use Rattle.doctor_warnings.specs.Told.{key, keys};
-ghost use Rattle.doctor_warnings.specs.Warnings.{is_only_here, look_of, passed_behind, passed_by, passed_warnings, reason_by, reason_of};
+ghost use Rattle.doctor_warnings.specs.Warnings.{is_idle_line, is_only_here, look_of, passed_behind, passed_by, passed_warnings, reason_by, reason_in, reason_of};
 
 use crate::examined::Examined;
 use crate::lines::line_at;
 use crate::told::{ToldLine, told_lines};
 use crate::warning::{Reason, Warning, tell};
-use look_alikes::{LookAlike, look_alike};
+use look_alikes::{LookAlike, is_idle, look_alike};
 use net_types::{Duplicate, NoMemory, Text};
 use std::alloc::Global;
 use text_tallies::Tallies;
@@ -149,10 +149,34 @@ fn add_reason(
         Warning::Passed {
             path: path.copy(alloc)?,
             line: line.number,
-            reason,
+            reason: reason_in(bytes, line, reason),
             text: Text::copy_of(alloc, line.text(bytes))?,
         },
     )
+}
+
+/// Whether the way of no packet depends on the line.
+fn is_idle_line(bytes: &[u8], line: ToldLine) -> bool
+    ensures { result ≡ is_idle_line bytes.now line }
+{
+    is_idle(line.mode, line.heading(bytes), line.text(bytes))
+}
+
+/// The reason, and of a line of one folder alone whether the way of a packet may depend on it.
+fn reason_in(bytes: &[u8], line: ToldLine, reason: Reason) -> Reason
+    ensures { result ≡ reason_in bytes.now line reason }
+{
+    match reason {
+        Reason::Looks { look } => Reason::Looks { look },
+        Reason::OnlyHere => {
+            if is_idle_line(bytes, line) {
+                Reason::Idle
+            } else {
+                Reason::OnlyHere
+            }
+        }
+        Reason::Idle => Reason::Idle,
+    }
 }
 
 fn reason_by(look: Option<LookAlike>, only: bool) -> Option<Reason>

@@ -6,11 +6,11 @@ ghost use Rattle.doctor_warnings.specs.Tables.{both_of, devices_of, fault_of, is
 
 use crate::examined::Examined;
 use crate::files::TextAt;
-use crate::limit::{Limit, LimitKind, refused_limits};
+use crate::limit::{Limit, LimitKind, counted_limits};
 use crate::lines::{nth_line, trimmed};
 use crate::listing::ListedLine;
 use crate::network::Notes;
-use crate::warning::{Warning, tell};
+use crate::warning::{Warning, tell, without_counted};
 use crate::wiring::Wiring;
 use net_types::{Duplicate, List, Loaded, NoMemory, Text};
 use place_checks::{Folders, LinkFindings, Networks, PlaceFinding, StrayNext, link_findings};
@@ -33,7 +33,9 @@ impl Drop for TableNotes {
 }
 
 impl TableNotes {
-    ghost use Rattle.doctor_warnings.specs.Limits.{refused_limits};
+    ghost use Rattle.std.specs.Prelude.{filter};
+    ghost use Rattle.doctor_warnings.specs.Limits.{counted_limits};
+    ghost use Rattle.doctor_warnings.specs.Warnings.{is_warning};
 
     /// Nothing yet.
     pub(crate) fn new(alloc: Global) -> TableNotes
@@ -46,22 +48,22 @@ impl TableNotes {
         }
     }
 
-    /// The notes, with the limits of what is refused first.
+    /// The notes, with what is counted apart from the warnings, before the limits of the links.
     pub(crate) fn finish(self, alloc: Global, lines: Vec<ListedLine>) -> Result<Notes, NoMemory>
-        ensures warnings { IfOk result (λ n. n.warnings ≡ self.warnings.items) }
-        ensures limits { IfOk result (λ n. n.limits ≡ refused_limits self.warnings.items ++ self.limits.items) }
+        ensures warnings { IfOk result (λ n. n.warnings ≡ filter is_warning self.warnings.items) }
+        ensures limits { IfOk result (λ n. n.limits ≡ counted_limits self.warnings.items ++ self.limits.items) }
         ensures lines { IfOk result (λ n. n.lines ≡ lines.items) }
     {
         let TableNotes {
-            warnings,
+            warnings: found,
             limits: wired,
         } = self;
-        let mut limits = refused_limits(alloc, &warnings)?;
+        let mut limits = counted_limits(alloc, &found)?;
         for limit in wired {
             limits.push(limit)?;
         }
         Ok(Notes {
-            warnings: List::new(warnings),
+            warnings: List::new(without_counted(alloc, found)?),
             limits: List::new(limits),
             lines: List::new(lines),
         })

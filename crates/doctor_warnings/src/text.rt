@@ -6,14 +6,15 @@ ghost use Rattle.doctor_warnings.specs.Texts.{limit_words, line_words, notes_tex
 use crate::limit::Limit;
 use crate::listing::ListedLine;
 use crate::network::Notes;
-use crate::note_text::{append_counted, append_limits_if, append_listed};
+use crate::note_text::{append_counted, append_listed, append_notes_limits};
 use crate::warning_text::append_warnings;
 use net_types::NoMemory;
 use report_text::{append, append_number};
 use std::alloc::Global;
 use text_tallies::{Tallies, Tally};
 
-/// The notes: the warnings, a line each; the limits, where there is a warning or `all` is asked for, and the lines that are passed
+/// The notes: the warnings, a line each; the limits, all where there is a warning or `all` is asked
+/// for and else how many lines no packet depends on, and the lines that are passed
 /// over, by their words with how many there are; these lines one by one; and how many warnings there are.
 pub fn notes_bytes(alloc: Global, all: bool, notes: &Notes) -> Result<Vec<u8>, NoMemory>
     ensures { IfOk result (λ text. IsText all notes.now text.items) }
@@ -57,7 +58,7 @@ fn text_of(
     let mut out = Vec::new(alloc);
     let warnings = notes.warnings.as_slice();
     append_warnings(&mut out, warnings)?;
-    append_limits_if(&mut out, all, notes, limits)?;
+    append_notes_limits(&mut out, all, notes, limits)?;
     append_counted(&mut out, notes.lines.as_slice(), lines)?;
     append_listed(&mut out, notes.lines.as_slice())?;
     append(&mut out, b"warnings ")?;

@@ -29,11 +29,18 @@ impl ToldLine {
         trimmed(line_at(bytes, self.start))
     }
 
+    /// The line that opened the section in which it stands, or nothing.
+    pub(crate) fn heading(self, bytes: &[u8]) -> &[u8]
+        ensures { result.now ≡ heading bytes.now self.mode self.under }
+    {
+        heading(bytes, self.mode, self.under)
+    }
+
     /// What it has in common with lines that read alike and stand in sections that are opened alike.
     pub(crate) fn key(self, alloc: Global, bytes: &[u8]) -> Result<Text, NoMemory>
         ensures { IfOk result (λ k. k ≡ key bytes.now self) }
     {
-        let mut key = heading(bytes, self.mode, self.under).to_vec(alloc)?;
+        let mut key = self.heading(bytes).to_vec(alloc)?;
         key.push(b'\n')?;
         key.extend_from_slice(self.text(bytes))?;
         Ok(Text::new(key))

@@ -1,10 +1,12 @@
 //! What is told.
-ghost use Rattle.std.specs.Prelude.{◌≡◌, ◌++◌, ◌∷◌, [], OnOk};
+ghost use Rattle.std.specs.Prelude.{◌≡◌, ◌++◌, ◌∷◌, [], filter, IfOk, OnOk};
+ghost use Rattle.doctor_warnings.specs.Warnings.{is_reason, is_warning};
 
 use config_checks::ConfigFinding;
 use look_alikes::LookAlike;
 use net_types::{NoMemory, Text};
 use place_checks::{PlaceFinding, StrayNext};
+use std::alloc::Global;
 
 /// Why a line that is passed over is told.
 #[derive(Clone, Copy, Debug, PartialEq, Eq)]
@@ -13,6 +15,8 @@ pub enum Reason {
     Looks { look: LookAlike },
     /// The other folder's file of the same name hasn't this line, or not so often.
     OnlyHere,
+    /// The same, and the way of no packet depends on the line.
+    Idle,
 }
 
 /// Something to look at before a comparison is believed.
@@ -113,6 +117,49 @@ impl Drop for Warning {
             } => {}
         }
     }
+}
+
+impl Warning {
+    ghost use Rattle.doctor_warnings.specs.Warnings.{is_warning};
+
+    /// Whether it is told by itself: a line on which the way of no packet depends is only counted.
+    fn is_warning(&self) -> bool
+        ensures { result ≡ is_warning self.now }
+    {
+        match self {
+            Warning::Passed {
+                path: _,
+                line: _,
+                reason,
+                text: _,
+            } => is_reason(*reason),
+            _ => true,
+        }
+    }
+}
+
+/// Whether a line that is passed over for this reason is told by itself.
+fn is_reason(reason: Reason) -> bool
+    ensures { result ≡ is_reason reason }
+{
+    match reason {
+        Reason::Looks { look: _ } => true,
+        Reason::OnlyHere => true,
+        Reason::Idle => false,
+    }
+}
+
+/// The warnings without what is only counted.
+pub(crate) fn without_counted(alloc: Global, found: Vec<Warning>) -> Result<Vec<Warning>, NoMemory>
+    ensures { IfOk result (λ warnings. warnings.items ≡ filter is_warning found.items) }
+{
+    let mut warnings = Vec::with_capacity(alloc, found.len())?;
+    for warning in found {
+        if warning.is_warning() {
+            warnings.push(warning)?;
+        }
+    }
+    Ok(warnings)
 }
 
 /// Adds a warning.

@@ -98,6 +98,7 @@ fn append_reason(out: &mut Vec<u8>, reason: Reason) -> Result<(), NoMemory>
             append_look(out, look)
         }
         Reason::OnlyHere => append(out, b"passed over, only in this folder"),
+        Reason::Idle => append(out, b"passed over, and no packet depends on it"),
     }
 }
 

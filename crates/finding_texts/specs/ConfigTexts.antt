@@ -27,9 +27,13 @@ named_text i d l = codes "interface " ++ shown i ++ codes " names the access lis
 abbrev pub masked_text : Masked → List ℕ
 masked_text m = address_text m.value ++ 32 ∷ address_text m.wild
 
+-- `route A/N by `
+abbrev pub prefix_text : Subnet → List ℕ
+prefix_text p = codes "route " ++ address_text p.address ++ codes "/" ++ decimal p.length ++ codes " by "
+
 -- `route A/N by H`
 abbrev pub way_text : Subnet → ℕ → List ℕ
-way_text p next = codes "route " ++ address_text p.address ++ codes "/" ++ decimal p.length ++ codes " by " ++ address_text next
+way_text p next = prefix_text p ++ address_text next
 
 -- a host that isn't behind its side
 abbrev pub host_text : ℕ → List ℕ
@@ -41,6 +45,9 @@ route_text (finding.NextIsOwn p n) = way_text p n ++ codes ": the next hop is th
 route_text (finding.NextNowhere p n) = way_text p n ++ codes ": no route holds the next hop, so it isn't valid"
 route_text (finding.NextByDefault p n) = way_text p n ++ codes ": only a default holds the next hop, so it goes where that leads"
 route_text (finding.NextByItself p n) = way_text p n ++ codes ": the next hop is looked up in the route's own prefix, so one of the choices is a drop"
+route_text (finding.NextIsBroadcast p n) = way_text p n ++ codes ": the next hop is a broadcast or multicast address, which no neighbour has"
+route_text (finding.PortAlone p i) =
+    prefix_text p ++ codes "interface " ++ shown i ++ codes " alone: any neighbour that answers for the destination takes the packet; write the next hop beside it"
 route_text (finding.NextElsewhere p i n) = way_text p n ++ codes ": no subnet of interface " ++ shown i ++ codes " holds the next hop"
 route_text (finding.NeverFloats p d n) =
     way_text p n ++ codes " at distance " ++ decimal d ++ codes ": another route holds the next hop, so the backup never takes over"
@@ -56,4 +63,6 @@ config_text finding.NoInside = codes "address translation without an interface i
 config_text finding.NoOutside = codes "address translation without an interface outside that is up"
 config_text (finding.NotInside a) = host_text a ++ codes "inside"
 config_text (finding.NotOutside a) = host_text a ++ codes "outside"
+config_text (finding.ShutAbove m b) =
+    codes "interface " ++ shown m ++ codes " is shut, and its subinterface " ++ shown b ++ codes " isn't: a router takes that down too"
 config_text f = route_text f

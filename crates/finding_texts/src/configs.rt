@@ -1,6 +1,6 @@
 //! Findings about a configuration.
 ghost use Rattle.std.specs.Prelude.{◌≡◌, ◌++◌, OnOk};
-ghost use Rattle.finding_texts.specs.ConfigTexts.{config_text, direction_text, field_text, host_text, masked_text, named_text, route_text, way_text};
+ghost use Rattle.finding_texts.specs.ConfigTexts.{config_text, direction_text, field_text, host_text, masked_text, named_text, prefix_text, route_text, way_text};
 
 use crate::adding::append_text;
 use config_checks::{AddressField, ConfigFinding, Direction};
@@ -15,6 +15,9 @@ const BY_DEFAULT: &[u8] = b": only a default holds the next hop, so it goes wher
 
 const BY_ITSELF: &[u8] =
     b": the next hop is looked up in the route's own prefix, so one of the choices is a drop";
+
+const IS_BROADCAST: &[u8] =
+    b": the next hop is a broadcast or multicast address, which no neighbour has";
 
 /// A finding.
 pub fn append_config(out: &mut Vec<u8>, finding: &ConfigFinding) -> Result<(), NoMemory>
@@ -54,6 +57,7 @@ pub fn append_config(out: &mut Vec<u8>, finding: &ConfigFinding) -> Result<(), N
         ),
         ConfigFinding::NotInside { local } => append_host(out, *local, b"inside"),
         ConfigFinding::NotOutside { global } => append_host(out, *global, b"outside"),
+        ConfigFinding::ShutAbove { main, below } => append_shut(out, main, below),
         _ => append_route(out, finding),
     }
 }
@@ -81,6 +85,10 @@ fn append_route(out: &mut Vec<u8>, finding: &ConfigFinding) -> Result<(), NoMemo
         ConfigFinding::NextByItself { prefix, next } => {
             append_next(out, *prefix, *next, BY_ITSELF)
         }
+        ConfigFinding::NextIsBroadcast { prefix, next } => {
+            append_next(out, *prefix, *next, IS_BROADCAST)
+        }
+        ConfigFinding::PortAlone { prefix, interface } => append_port(out, *prefix, interface),
         ConfigFinding::NextElsewhere {
             prefix,
             interface,
@@ -157,16 +165,47 @@ fn append_field(out: &mut Vec<u8>, field: AddressField) -> Result<(), NoMemory>
     }
 }
 
-/// `route A/N by H`
-fn append_way(out: &mut Vec<u8>, prefix: Subnet, next: u32) -> Result<(), NoMemory>
-    ensures { OnOk result (out.new.items ≡ out.old.items ++ way_text prefix next) }
+/// `route A/N by `
+fn append_prefix(out: &mut Vec<u8>, prefix: Subnet) -> Result<(), NoMemory>
+    ensures { OnOk result (out.new.items ≡ out.old.items ++ prefix_text prefix) }
 {
     append(out, b"route ")?;
     append_address(out, prefix.address)?;
     append(out, b"/")?;
     append_number(out, u64::from(prefix.length))?;
-    append(out, b" by ")?;
+    append(out, b" by ")
+}
+
+/// `route A/N by H`
+fn append_way(out: &mut Vec<u8>, prefix: Subnet, next: u32) -> Result<(), NoMemory>
+    ensures { OnOk result (out.new.items ≡ out.old.items ++ way_text prefix next) }
+{
+    append_prefix(out, prefix)?;
     append_address(out, next)
+}
+
+/// A route by an interface alone, over a lan.
+fn append_port(out: &mut Vec<u8>, prefix: Subnet, interface: &Text) -> Result<(), NoMemory>
+    ensures { OnOk result (out.new.items ≡ out.old.items ++ config_text (ConfigFinding.PortAlone prefix interface.now)) }
+{
+    append_prefix(out, prefix)?;
+    append(out, b"interface ")?;
+    append_text(out, interface)?;
+    append(
+        out,
+        b" alone: any neighbour that answers for the destination takes the packet; write the next hop beside it",
+    )
+}
+
+/// A subinterface of an interface that is shut.
+fn append_shut(out: &mut Vec<u8>, main: &Text, below: &Text) -> Result<(), NoMemory>
+    ensures { OnOk result (out.new.items ≡ out.old.items ++ config_text (ConfigFinding.ShutAbove main.now below.now)) }
+{
+    append(out, b"interface ")?;
+    append_text(out, main)?;
+    append(out, b" is shut, and its subinterface ")?;
+    append_text(out, below)?;
+    append(out, b" isn't: a router takes that down too")
 }
 
 /// A way, and what is odd with its next hop.

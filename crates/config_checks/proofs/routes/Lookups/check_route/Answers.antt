@@ -9,3 +9,9 @@ returns-in-Both c =
     let config = c.args.self.now.config.now in
     let route = c.args.route.now in
     subst (λ (x : RouteExit). OnOk c.check_both.result (c.check_both.new.found.items ≡ c.args.found.now.items ++ exit_findings config (installed config) route x)) (sym c.in-Both.is) (c.check_both.ensures (installed config) route refl)
+
+pub returns-in-Port : goal.returns-in-Port
+returns-in-Port c =
+    let config = c.args.self.now.config.now in
+    let route = c.args.route.now in
+    subst (λ (x : RouteExit). OnOk c.check_port.result (c.check_port.new.found.items ≡ c.args.found.now.items ++ exit_findings config (installed config) route x)) (sym c.in-Port.is) (c.check_port.ensures (installed config) route refl)

@@ -2,7 +2,7 @@ use Rattle.std.proofs.Common.{ap, ◌++◌, ◌∙◌, arith}
 use Rattle.std.specs.Prelude.{option_to_list}
 use Rattle.doctor_warnings.specs.Limits.{limit_of}
 use Rattle.doctor_warnings.proofs.Items.{push_option}
-use Rattle.doctor_warnings.proofs.limit.refused_limits.Goals as goal
+use Rattle.doctor_warnings.proofs.limit.counted_limits.Goals as goal
 
 pub loop-warning-preserved : goal.loop-warning-preserved
 loop-warning-preserved c =
