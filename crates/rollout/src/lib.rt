@@ -7,4 +7,5 @@ mod network;
 mod steps;
 mod touched;
 
+pub use network::{Step, network_after};
 pub use steps::{Rollout, RolloutAnswer, check_rollout};

@@ -15,7 +15,7 @@ pub struct Step<'a> {
 }
 
 /// The network with the device of that name replaced.
-pub(crate) fn network_after(
+pub fn network_after(
     alloc: Global,
     network: &Network,
     change: &NetDevice,

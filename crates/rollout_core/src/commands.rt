@@ -14,6 +14,7 @@ use std::alloc::Global;
 use std::sync::Wait;
 use std::thread::Threads;
 use steal_pool::Gate;
+use variants_core::variants_run;
 use window_core::rollout_run;
 
 /// A command of the program.
@@ -22,6 +23,7 @@ pub enum Command {
     Audit,
     Edits,
     Rollout,
+    Variants,
 }
 
 /// Hands the words to the command that the first of them names, and answers its status; 2 where it names none, or there is no word.
@@ -51,6 +53,7 @@ pub fn tool<F: Files, O: Sink, E: Sink, G: Gate + Sync, R: Threads + Wait + Sync
     match command_of(words) {
         Command::Audit => audit_run(alloc, words, files, out, err),
         Command::Edits => edits_run(alloc, words, files, out, err),
+        Command::Variants => variants_run(rt, alloc, words, files, out, err, gate),
         // It refuses words that name no command.
         Command::Rollout => rollout_run(rt, alloc, words, files, out, err, gate),
     }
@@ -65,6 +68,9 @@ fn command_of(words: &[String]) -> Command
     }
     if is_named(words, b"edits") {
         return Command::Edits;
+    }
+    if is_named(words, b"variants") {
+        return Command::Variants;
     }
     Command::Rollout
 }

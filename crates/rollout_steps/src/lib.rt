@@ -7,5 +7,5 @@
 mod reading;
 mod refusal;
 
-pub use reading::{StepLine, read_steps};
-pub use refusal::{StepRefusal, StepsFail};
+pub use reading::{StepLine, read_line, read_steps, texts};
+pub use refusal::{StepRefusal, StepsFail, at_word, missing};

@@ -66,8 +66,8 @@ fn add(steps: &mut Vec<StepLine>, step: Option<StepLine>) -> Result<(), StepsFai
     Ok(())
 }
 
-// The words of a line.
-fn texts(alloc: Global, bytes: &[u8], spans: &[Span]) -> Result<Vec<Text>, NoMemory>
+/// The words of a line.
+pub fn texts(alloc: Global, bytes: &[u8], spans: &[Span]) -> Result<Vec<Text>, NoMemory>
     ensures { IfOk result (λ words. words.items ≡ map (piece bytes.now) spans.now) }
 {
     let mut words = Vec::with_capacity(alloc, spans.len())?;
@@ -77,9 +77,9 @@ fn texts(alloc: Global, bytes: &[u8], spans: &[Span]) -> Result<Vec<Text>, NoMem
     Ok(words)
 }
 
-// The step of a line, if it isn't a comment.
+/// The step of a line, if it isn't a comment.
 #[tactic(auto, unfolding(crate::specs::Reading::effect_of))]
-fn read_line(alloc: Global, line: u32, words: &[Text]) -> Result<Option<StepLine>, StepsFail>
+pub fn read_line(alloc: Global, line: u32, words: &[Text]) -> Result<Option<StepLine>, StepsFail>
     ensures { Gives (λ step. step) result (effect_of line words.now) }
 {
     let [word, rest @ ..] = words else {

@@ -50,7 +50,7 @@ pub enum StepsFail {
 }
 
 /// The refusal of a line at a word, or want of memory for it.
-pub(crate) fn at_word(alloc: Global, kind: StepRefusal, line: u32, word: &Text) -> StepsFail
+pub fn at_word(alloc: Global, kind: StepRefusal, line: u32, word: &Text) -> StepsFail
     ensures { result ≢ StepsFail.NoMemory → result ≡ refused kind line word.now }
 {
     match cut(alloc, word) {
@@ -60,7 +60,7 @@ pub(crate) fn at_word(alloc: Global, kind: StepRefusal, line: u32, word: &Text) 
 }
 
 /// The refusal of a line that ends too early.
-pub(crate) fn missing(alloc: Global, line: u32) -> StepsFail
+pub fn missing(alloc: Global, line: u32) -> StepsFail
     ensures { result ≡ refused StepRefusal.MissingWord line [] }
 {
     StepsFail::Refused {

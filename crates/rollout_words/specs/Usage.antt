@@ -13,3 +13,4 @@ usage_text =
     ++ codes "  audit NET\n"
     ++ codes "  edits NET LINKS EDITS\n"
     ++ codes "  rollout NET LINKS QUESTIONS STEPS\n"
+    ++ codes "  variants NET LINKS VARIANTS\n"

@@ -8,6 +8,7 @@ pub const USAGE: &[u8] = b"usage:
   audit NET
   edits NET LINKS EDITS
   rollout NET LINKS QUESTIONS STEPS
+  variants NET LINKS VARIANTS
 ";
 
 /// Whether the word may be an operand: it isn't empty and doesn't begin with `-`.

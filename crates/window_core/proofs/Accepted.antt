@@ -32,22 +32,22 @@ use Rattle.window_core.specs.Words.{Paths, paths_of}
 use Rattle.net_load.specs.Numbering.{names_of}
 use Rattle.window_core.proofs.SecondReading.{read_alike, texts_alike}
 
-ok_is : {A E : Type 0} (o : Result A E) (x y : A) → o ≡ Ok x → o ≡ Ok y → x ≡ y
+pub ok_is : {A E : Type 0} (o : Result A E) (x y : A) → o ≡ Ok x → o ≡ Ok y → x ≡ y
 ok_is o x y a b = cc
 
-ok_err : {A E : Type 0} (o : Result A E) (x : A) (e : E) → o ≡ Ok x → o ≡ Err e → ⊥
+pub ok_err : {A E : Type 0} (o : Result A E) (x : A) (e : E) → o ≡ Ok x → o ≡ Err e → ⊥
 ok_err o x e a b = cc
 
 none_some : {A : Type 0} (o : Option A) (x : A) → o ≡ None → o ≡ Some x → ⊥
 none_some o x a b = cc
 
 -- a step gives this value and no other, and is stopped by nothing but what may always stop
-record Given {A : Type 0} (Is : Result A Stop → Type 0) (a : A) : Type 0 where
-  once : (b : A) → Is (Ok b) → b ≡ a
-  stops : (s : Stop) → Is (Err s) → MayAlwaysStop s
+pub record Given {A : Type 0} (Is : Result A Stop → Type 0) (a : A) : Type 0 where
+  pub once : (b : A) → Is (Ok b) → b ≡ a
+  pub stops : (s : Stop) → Is (Err s) → MayAlwaysStop s
 
 -- so it is with a step and the next one
-given_then : {A B : Type 0} (first : Result A Stop → Type 0) (next : A → Result B Stop → Type 0) (a : A) (b : B) → Given first a → Given (next a) b → Given (Then first next) b
+pub given_then : {A B : Type 0} (first : Result A Stop → Type 0) (next : A → Result B Stop → Type 0) (a : A) (b : B) → Given first a → Given (next a) b → Given (Then first next) b
 given_then {A} {B} first next a b f n = record { once = once; stops = stops } where
   once : (c : B) → Then first next (Ok c) → c ≡ b
   once c (inl (s, h, same)) = absurd (ok_err (Ok c) c s refl same)
@@ -56,19 +56,19 @@ given_then {A} {B} first next a b f n = record { once = once; stops = stops } wh
   stops : (s : Stop) → Then first next (Err s) → MayAlwaysStop s
   stops s h = then_may_stop first next s f.stops (λ x g k. n.stops s (subst (λ y. next y (Err s)) (f.once x g) k)) h
 
-given_stops : {A B : Type 0} (first : Result A Stop → Type 0) (next : A → Result B Stop → Type 0) (a : A) (s : Stop) → Given first a → (next a (Err s) → MayAlwaysStop s) → Then first next (Err s) → MayAlwaysStop s
+pub given_stops : {A B : Type 0} (first : Result A Stop → Type 0) (next : A → Result B Stop → Type 0) (a : A) (s : Stop) → Given first a → (next a (Err s) → MayAlwaysStop s) → Then first next (Err s) → MayAlwaysStop s
 given_stops first next a s f n h = then_may_stop first next s f.stops (λ x g k. n (subst (λ y. next y (Err s)) (f.once x g) k)) h
 
 -- a step that can't stop
-abbrev IsMade : {A : Type 0} → A → Result A Stop → Type 0
+abbrev pub IsMade : {A : Type 0} → A → Result A Stop → Type 0
 IsMade a result = result ≡ Ok a
 
-made : {A : Type 0} (a : A) → Given (IsMade a) a
+pub made : {A : Type 0} (a : A) → Given (IsMade a) a
 made a = record { once = λ b h. ok_is (Ok b) b a refl h; stops = λ s h. absurd (ok_err (Err s) a s h refl) }
 
 -- ---- files
 
-file_given : (t : Told) (path : List ℕ) (a : AcceptedFile t path) → Given (GivesBytes (λ (bytes : List ℕ). bytes) path (content t path)) a.bytes
+pub file_given : (t : Told) (path : List ℕ) (a : AcceptedFile t path) → Given (GivesBytes (λ (bytes : List ℕ). bytes) path (content t path)) a.bytes
 file_given t path a = record { once = λ b g. bytes_are t path b a g.0; stops = file_may_stop t path a }
 
 -- ---- a change
@@ -92,14 +92,14 @@ judged_stops path fault (stop.HostnameTaken p q) fits h = h
 judged_stops path fault (stop.Refused p n k w) fits (same, kind, named, fails) = none_some fault (steps.Refused kind n w) fits fails
 
 -- a step that gives a value gives it alone
-abbrev Single : {A : Type 0} → (Result A Stop → Type 0) → Type 0
+abbrev pub Single : {A : Type 0} → (Result A Stop → Type 0) → Type 0
 Single {A} Is = (a : A) → Is (Ok a) → Given Is a
 
-single_then : {A B : Type 0} (first : Result A Stop → Type 0) (next : A → Result B Stop → Type 0) → Single first → ((a : A) → Single (next a)) → Single (Then first next)
+pub single_then : {A B : Type 0} (first : Result A Stop → Type 0) (next : A → Result B Stop → Type 0) → Single first → ((a : A) → Single (next a)) → Single (Then first next)
 single_then first next f n b (inl (s, h, same)) = absurd (ok_err (Ok b) b s refl same)
 single_then first next f n b (inr (x, h, k)) = given_then first next x b (f x h) (n x b k)
 
-single_made : {A : Type 0} (a : A) → Single (IsMade a)
+pub single_made : {A : Type 0} (a : A) → Single (IsMade a)
 single_made a b h = subst (λ x. Given (IsMade a) x) (ok_is (Ok b) a b h refl) (made a)
 
 single_file : (t : Told) (path : List ℕ) → Single (GivesBytes (λ (bytes : List ℕ). bytes) path (content t path))
@@ -114,7 +114,7 @@ single_config file bytes l h = record { once = λ m k. config_is file bytes l m 
 single_judged : (path : List ℕ) (fault : Option StepsFail) (change : Change) → Single (IsJudged path fault (λ x. x ≡ change))
 single_judged path fault change x h = record { once = λ b k. k.0 ∙ sym h.0; stops = λ s k. judged_stops path fault s h.1 k }
 
-single_change : (t : Told) (path : List ℕ) (base : Base) (before : List Loaded) (sum : ℕ) (step : StepLine) → Single (GivesChange t path base before sum step)
+pub single_change : (t : Told) (path : List ℕ) (base : Base) (before : List Loaded) (sum : ℕ) (step : StepLine) → Single (GivesChange t path base before sum step)
 single_change t path base before sum step =
     single_then (ReadsChange t path sum step) (Judges path base before step.line)
     (single_then (GivesBytes (λ (bytes : List ℕ). bytes) step.path (content t step.path)) (SaysChange path sum step.path)

@@ -1,5 +1,5 @@
 -- The changes of a window that are read so far.
-use Rattle.std.specs.Prelude.{◌≡◌, ◌≤◌, List, ◌∷◌, ◌++◌, [], Result, Ok, Err, length}
+use Rattle.std.specs.Prelude.{◌≡◌, ◌≤◌, List, ◌+◌, ◌∷◌, ◌++◌, [], Result, Ok, Err, length}
 use Rattle.net_types.specs.declared.config.Loaded.{Loaded}
 use Rattle.net_io.specs.Limits.{file_limit}
 use Rattle.topo_links.specs.Table.{table_names}
@@ -27,3 +27,7 @@ pub record IsWindow (base : Base) (w : Window) : Type 0 where
 abbrev pub Grows : (Result Change Stop → Type 0) → List Loaded → Result Window Stop → Type 0
 Grows Gives before (Ok w) = (x : Change) × Gives (Ok x) × (w.changes ≡ before ++ x.device ∷ []) × (w.total ≡ x.total)
 Grows Gives before (Err s) = Gives (Err s)
+
+-- the changes of the second have no more names beyond those of the first than their files have bytes
+abbrev pub AddsNames : Window → Window → Type 0
+AddsNames w v = w.total + length (folder_names v.changes) ≤ v.total + length (folder_names w.changes)

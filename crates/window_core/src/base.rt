@@ -46,8 +46,8 @@ pub(crate) fn read_base<F: Files, R: Threads + Sync, G>(
     }
 }
 
-// The network with its link table.
-fn with_table<F: Files>(
+/// A network with its link table, which is judged with the network as both.
+pub fn with_table<F: Files>(
     alloc: Global,
     files: &mut F,
     devices: Vec<Loaded>,

@@ -6,7 +6,7 @@ ghost use Rattle.net_load.specs.Numbering.{config_names, folder_names};
 ghost use Rattle.job_core.specs.Causes.{HasCause, NamesLast, WasRead};
 ghost use Rattle.window_core.specs.Changes.{GivesChange, GivesChanges, Judges};
 ghost use Rattle.window_core.specs.Job.{GivesWindow};
-ghost use Rattle.window_core.specs.Window.{Grows, IsWindow};
+ghost use Rattle.window_core.specs.Window.{AddsNames, Grows, IsWindow};
 
 use crate::base::Base;
 use crate::change::{Change, read_change};
@@ -74,8 +74,8 @@ pub(crate) fn read_window<F: Files>(
 }
 
 impl Window {
-    // No change.
-    fn new(alloc: Global, base: &Base) -> Result<Window, NoMemory>
+    /// No change.
+    pub fn new(alloc: Global, base: &Base) -> Result<Window, NoMemory>
         ensures window { IfOk result (IsWindow base.now) }
         ensures changes { IfOk result (λ w. w.changes ≡ []) }
         ensures total { IfOk result (λ w. w.total ≡ 0) }
@@ -87,8 +87,8 @@ impl Window {
         })
     }
 
-    // The window with the change of a step.
-    fn take<F: Files>(
+    /// The window with the change of a step. `path` is that of the window.
+    pub fn take<F: Files>(
         self,
         alloc: Global,
         files: &mut F,
@@ -99,6 +99,7 @@ impl Window {
         requires { IsWindow base.now self }
         ensures change { IfSome (F.told files.old) (λ t. Grows (GivesChange t path.now base.now self.changes self.total step.now) self.changes result) }
         ensures window { IfOk result (IsWindow base.now) }
+        ensures names { IfOk result (AddsNames self) }
         ensures cause { HasCause (F.faults files.old) (F.faults files.new) result }
         ensures last { IfErr result (NamesLast (F.last files.new)) }
         ensures same { F.told files.new ≡ F.told files.old }
@@ -123,6 +124,7 @@ impl Window {
         requires total { change.total ≤ folder_limit }
         ensures change { Grows (Judges path.now base.now self.changes line change) self.changes result }
         ensures window { IfOk result (IsWindow base.now) }
+        ensures names { IfOk result (AddsNames self) }
         ensures read { IfErr result WasRead }
     {
         let Window {

@@ -12,4 +12,6 @@ mod text;
 mod top;
 mod words;
 
+pub use base::{Base, with_table};
+pub use changes::Window;
 pub use top::rollout_run;

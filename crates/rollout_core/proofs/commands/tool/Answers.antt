@@ -20,3 +20,6 @@ returns-in-Edits-clause-ends g c = named (map string_bytes c.args.words.now) com
 
 pub returns-in-Rollout-clause-ends : goal.returns-in-Rollout-clause-ends
 returns-in-Rollout-clause-ends g c = named (map string_bytes c.args.words.now) command.Rollout _ _ _ _ (sym c.in-Rollout.is ∙ c.command_of.ensures) c.rollout_run.ensures.ends
+
+pub returns-in-Variants-clause-ends : goal.returns-in-Variants-clause-ends
+returns-in-Variants-clause-ends g c = named (map string_bytes c.args.words.now) command.Variants _ _ _ _ (sym c.in-Variants.is ∙ c.command_of.ensures) c.variants_run.ensures.ends

@@ -1,0 +1,5 @@
+pub mod Words
+pub mod Report
+pub mod Taking
+pub mod Job
+pub mod Accepted
