@@ -1,13 +1,16 @@
 """Addresses, masks, and ranges as the fewest prefixes."""
 
+import functools
+
 ALL_ONES = 2**32 - 1
 
 
 def is_number(word):
     """Whether a word is decimal digits alone."""
-    return word != "" and all(digit in "0123456789" for digit in word)
+    return word.isascii() and word.isdigit()
 
 
+@functools.lru_cache(maxsize=1 << 16)
 def address_of(word):
     """The number of a dotted address, or None."""
     parts = word.split(".")

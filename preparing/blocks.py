@@ -15,10 +15,16 @@ class Block:
     head: Line = None
     body: list = field(default_factory=list)
     is_banner: bool = False
+    known: tuple = (None, ())
 
     def words(self):
         """The words of the line at the margin."""
-        return self.head.words() if self.head is not None and not self.is_banner else []
+        if self.head is None or self.is_banner:
+            return []
+        # (asked for by each step of a preparation)
+        if self.known[0] is not self.head:
+            self.known = self.head, self.head.words()
+        return list(self.known[1])
 
     def inner(self):
         """The commands below, without blank lines and comments."""

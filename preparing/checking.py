@@ -55,21 +55,26 @@ def placeholder(line):
     return line.again("!" if is_indented(line.text) else "taken-out")
 
 
-def refusals(path, lines):
-    """All refusals of a text, as faults."""
-    lines, found = list(lines), []
-    blocks_of(lines)
-    while len(found) < MOST:
+def refused_lines(path, lines):
+    """All lines of a text that the verifier refuses, each with the kind and the word; one of number 0 is the whole file, which ends them."""
+    lines, count = list(lines), 0
+    while count < MOST:
         refusal = first_refusal(lines)
         if refusal is None:
-            break
+            return
         number, kind, word = refusal
         place = lines[number - 1] if number else Line("", path, 0)
-        found.append(Refused(place.path, place.number, kind, word))
+        yield place, kind, word
         if number == 0:
-            break
+            return
         lines[number - 1] = placeholder(place)
-    return found
+        count += 1
+
+
+def refusals(path, lines):
+    """All refusals of a text, as faults."""
+    blocks_of(lines)
+    return [Refused(place.path, place.number, kind, word) for place, kind, word in refused_lines(path, lines)]
 
 
 def check(texts):

@@ -5,7 +5,8 @@ from .faults import Fault, Faults, Usage
 from .told import print_lines
 
 PREPARE_USAGE = """usage:
-  prepare CONFIGS OUT [--routes FOLDER] [--vrf NAME] [--keep-static] [--active FILE] [--check]
+  prepare CONFIGS OUT [--routes FOLDER] [--vrf NAME] [--keep-static] [--active FILE] [--waivers FILE]
+          [--as-written] [--check]
   prepare --apply TICKETS OLD NEW [--check]"""
 COLLECT_USAGE = """usage:
   collect INVENTORY OUT"""
@@ -13,7 +14,7 @@ COLLECT_USAGE = """usage:
 
 @dataclass
 class PrepareWords:
-    """What the words of `prepare` ask for."""
+    """What the words of `prepare` ask for. `by_table` names configurations whose static routes are the table's in spite of `keep_static`."""
 
     configs: str
     out: str
@@ -23,6 +24,9 @@ class PrepareWords:
     tickets: str = None
     keep_static: bool = False
     check: bool = False
+    as_written: bool = False
+    waivers: str = None
+    by_table: frozenset = frozenset()
 
 
 def split_words(words, with_value, without_value, usage):
@@ -51,13 +55,14 @@ def split_words(words, with_value, without_value, usage):
 
 def prepare_words(words):
     """What the words of `prepare` ask for."""
-    positional, options = split_words(words, ("--routes", "--vrf", "--active", "--apply"), ("--keep-static", "--check"), PREPARE_USAGE)
+    with_value, without_value = ("--routes", "--vrf", "--active", "--apply", "--waivers"), ("--keep-static", "--check", "--as-written")
+    positional, options = split_words(words, with_value, without_value, PREPARE_USAGE)
     apply = "--apply" in options
     if len(positional) != 2 or apply and set(options) - {"--apply", "--check"} or "--keep-static" in options and "--routes" not in options:
         raise Usage(PREPARE_USAGE)
     return PrepareWords(
         positional[0], positional[1], options.get("--routes"), options.get("--vrf"), options.get("--active"), options.get("--apply"),
-        "--keep-static" in options, "--check" in options,
+        "--keep-static" in options, "--check" in options, "--as-written" in options, options.get("--waivers"),
     )
 
 

@@ -9,6 +9,9 @@ from .groups import KINDS, is_group
 from .list_editing import Lists
 
 INTERFACE_NAME = re.compile(r"([A-Za-z][A-Za-z-]*?(?:[0-9]+[A-Za-z][A-Za-z-]*)?)[ -]?([0-9][0-9/.:]*)")
+RANGE = re.compile(r"(?P<kind>[A-Za-z][A-Za-z-]*?)\s*(?P<before>(?:[0-9]+[/.:])*)(?P<first>[0-9]{1,5})(?:\s*-\s*(?:[A-Za-z-]*\s*(?:[0-9]+[/.:])*)"
+                   r"(?P<last>[0-9]{1,5}))?")
+MOST_IN_RANGE = 1000
 
 
 class Editor:
@@ -69,6 +72,54 @@ class Editor:
         if full in VIRTUAL or "." in number and full + number.split(".")[0] in self.names():
             return name
         raise line.refused("UnknownInterface", name)
+
+    def there(self, line, words):
+        """The name of an interface that has to be there."""
+        if not words:
+            raise line.refused("MissingWord")
+        name, there = self.find_interface(line, words)
+        if not there:
+            raise line.refused("NotThere", name)
+        return name
+
+    def interfaces_of_range(self, line, words):
+        """The interfaces of a range, as `gi1/0/1 - 4 , vlan 10`, each of which is there, or is a virtual one that is made."""
+        if not words:
+            raise line.refused("MissingWord")
+        names = []
+        for part in " ".join(words).split(","):
+            found = RANGE.fullmatch(part.strip())
+            if found is None:
+                raise line.refused("BadWord", part.strip())
+            first, last = int(found["first"]), int(found["last"] or found["first"])
+            if not first <= last <= first + MOST_IN_RANGE:
+                raise line.refused("BadWord", found["last"])
+            for number in range(first, last + 1):
+                name, made = self.open_interface(line, [found["kind"], found["before"] + str(number)])
+                if name not in names:
+                    names.append(name)
+        return names
+
+    def reset_interface(self, line, name):
+        """Takes all lines out of the sections of an interface but whether it is shut."""
+        is_shut = self.interface(name).shut
+        for block in self.sections(name):
+            for one in block.inner():
+                block.body.remove(one)
+        last = self.sections(name)[-1]
+        last.body.insert(0, line.again(" no ip address"))
+        if is_shut:
+            last.body.insert(1, line.again(" shutdown"))
+
+    def remove_interface(self, line, name):
+        """Removes a logical interface with its subinterfaces, and the static routes out of these; gives the names, and how many routes."""
+        found = INTERFACE_NAME.fullmatch(name)
+        if found is None or "." not in name and found.group(1) not in VIRTUAL:
+            raise line.refused("NotCovered", "interface")
+        gone = [one for one in self.names() if one == name or one.startswith(name + ".")]
+        routes = [block for block, static in self.statics() if static.interface in gone]
+        self.remove_blocks([block for one in gone for block in self.sections(one)] + routes)
+        return gone, len(routes)
 
     def open_interface(self, line, words, kind=()):
         """Opens the section of an interface; gives its name, and whether it was made."""

@@ -1,34 +1,26 @@
-"""Entries of access lists as they are typed: abbreviated words are written out, and two entries can be compared."""
+"""Entries of access lists as they are typed: abbreviated words are written out, names that the verifier doesn't read become numbers, and
+two entries can be compared."""
+from . import names as other_names
 from .addresses import ALL_ONES, address_of, is_number
 from .commands import resolve
 
 PROTOCOLS = dict(icmp=1, igmp=2, ipinip=4, tcp=6, udp=17, gre=47, esp=50, ahp=51, eigrp=88, ospf=89, pim=103)
-OTHER_PROTOCOLS = ("nos", "pcp", "sctp")
 TCP = dict(
     echo=7, discard=9, daytime=13, chargen=19, ftp=21, telnet=23, smtp=25, time=37, whois=43, tacacs=49, domain=53, gopher=70, finger=79,
     www=80, hostname=101, pop2=109, pop3=110, sunrpc=111, ident=113, nntp=119, bgp=179, irc=194, exec=512, login=513, cmd=514, lpd=515,
     talk=517, uucp=540, klogin=543, kshell=544,
 )
 TCP["ftp-data"] = 20
-OTHER_TCP = ("connectedapps-plain", "connectedapps-tls", "drip", "msrpc", "onep-plain", "onep-tls", "pim-auto-rp", "syslog")
 UDP = dict(
     echo=7, discard=9, time=37, nameserver=42, tacacs=49, domain=53, bootps=67, bootpc=68, tftp=69, sunrpc=111, ntp=123, snmp=161,
     snmptrap=162, xdmcp=177, isakmp=500, biff=512, who=513, syslog=514, talk=517, rip=520,
 )
 UDP.update({"netbios-ns": 137, "netbios-dgm": 138, "netbios-ss": 139, "mobile-ip": 434, "non500-isakmp": 4500})
-OTHER_UDP = ("dnsix", "pim-auto-rp", "ripv6")
 ICMP = {
     "echo-reply": (0,), "unreachable": (3,), "net-unreachable": (3, 0), "host-unreachable": (3, 1), "port-unreachable": (3, 3),
     "packet-too-big": (3, 4), "administratively-prohibited": (3, 13), "source-quench": (4,), "redirect": (5,), "echo": (8,),
     "time-exceeded": (11,), "ttl-exceeded": (11, 0), "parameter-problem": (12,),
 }
-OTHER_ICMP = (
-    "alternate-address", "conversion-error", "dod-host-prohibited", "dod-net-prohibited", "general-parameter-problem", "host-isolated",
-    "host-precedence-unreachable", "host-redirect", "host-tos-redirect", "host-tos-unreachable", "host-unknown", "information-reply",
-    "information-request", "mask-reply", "mask-request", "mobile-redirect", "net-redirect", "net-tos-redirect", "net-tos-unreachable",
-    "network-unknown", "no-room-for-option", "option-missing", "precedence-unreachable", "protocol-unreachable", "reassembly-timeout",
-    "router-advertisement", "router-solicitation", "source-route-failed", "timestamp-reply", "timestamp-request", "traceroute",
-)
 PORT_TESTS = ("eq", "gt", "lt", "neq", "range")
 FLAGS = ("ack", "fin", "psh", "rst", "syn", "urg")
 TRAILING = FLAGS + ("established", "log", "log-input", "match-all", "match-any")
@@ -127,7 +119,10 @@ class Entry:
                 raise self.line.refused("NotCovered" if int(word) == 0 else "BadWord", word)
             self.put(word, int(word))
             return int(word)
-        word = self.word_from(word, tuple(PROTOCOLS) + ("ip", "object-group"), OTHER_PROTOCOLS)
+        word = self.word_from(word, tuple(PROTOCOLS) + tuple(other_names.PROTOCOLS) + ("ip", "object-group"), ())
+        if word in other_names.PROTOCOLS:
+            self.put(str(other_names.PROTOCOLS[word]), other_names.PROTOCOLS[word])
+            return other_names.PROTOCOLS[word]
         if word == "object-group":
             name = self.take()
             self.words += [word, name]
@@ -146,7 +141,7 @@ class Entry:
             return
         self.take()
         self.put(test, test)
-        most = {"eq": 10, "range": 2}.get(test, 1)
+        most = {"eq": 10, "neq": 10, "range": 2}.get(test, 1)
         count = 0
         while count < most and self.rest and (count == 0 or test == "range" or self.is_port(self.rest[0], protocol)):
             self.read_port(protocol)
@@ -156,7 +151,8 @@ class Entry:
 
     def is_port(self, word, protocol):
         """Whether a word behind a port is a further one: a number, or the name of a port in full."""
-        return is_number(word) or word.lower() in (TCP if protocol == 6 else UDP)
+        names, others = (TCP, other_names.TCP) if protocol == 6 else (UDP, other_names.UDP)
+        return is_number(word) or word.lower() in names or word.lower() in others
 
     def read_port(self, protocol):
         """A port, by its number or its name."""
@@ -166,9 +162,9 @@ class Entry:
                 raise self.line.refused("BadWord", word)
             self.put(word, int(word))
             return
-        names, others = (TCP, OTHER_TCP) if protocol == 6 else (UDP, OTHER_UDP)
-        name = self.word_from(word, tuple(names), others)
-        self.put(name, names[name])
+        names, others = (TCP, other_names.TCP) if protocol == 6 else (UDP, other_names.UDP)
+        name = self.word_from(word, tuple(names) + tuple(others), ())
+        self.put(name if name in names else str(others[name]), names.get(name, others.get(name)))
 
     def read_trailing(self, protocol):
         """One of the words behind the destination."""
@@ -176,13 +172,14 @@ class Entry:
         if protocol == 1 and is_number(word):
             self.read_icmp_numbers()
             return
-        names = tuple(ICMP) if protocol == 1 else ()
-        covered = names + (TRAILING if protocol == 6 else ("log", "log-input"))
-        others = (OTHER_ICMP if protocol == 1 else ()) + OTHER_TRAILING
-        word = self.word(covered, others)
+        names = tuple(ICMP) + tuple(other_names.ICMP) if protocol == 1 else ()
+        word = self.word(names + (TRAILING if protocol == 6 else ("log", "log-input")), OTHER_TRAILING)
         if word in ICMP and protocol == 1:
             self.words.append(word)
             self.key += list(ICMP[word])
+        elif word in other_names.ICMP and protocol == 1:
+            self.words += map(str, other_names.ICMP[word])
+            self.key += list(other_names.ICMP[word])
         elif word in ("match-all", "match-any"):
             self.put(word, word)
             self.read_flags()

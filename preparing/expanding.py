@@ -1,4 +1,4 @@
-"""Access lists with object groups: each entry that names groups becomes entries without, in the same order.
+"""Access lists with object groups, and with `neq` of several ports: each such entry becomes entries without, in the same order.
 
 All numbers of such a list are multiplied by one power of ten, so that the number of an entry, divided by it, is the number of the
 entry of the device that it comes from.
@@ -7,12 +7,18 @@ from dataclasses import dataclass
 
 from .addresses import address_of, is_number
 from .blocks import Block
+from .entries import TCP, UDP
 from .groups import MOST_ENTRIES, Groups, Service, is_group
+from .names import TCP as OTHER_TCP
+from .names import UDP as OTHER_UDP
 from .texts import Line
 
 GREATEST = 2147483647
 USUAL_FACTOR = 1000
 PORT_WORDS = ("eq", "neq", "gt", "lt", "range")
+GREATEST_PORT = 65535
+PORT_NAMES = {"tcp": {**TCP, **OTHER_TCP}, "udp": {**UDP, **OTHER_UDP}}
+PORT_NAMES.update({"6": PORT_NAMES["tcp"], "17": PORT_NAMES["udp"]})
 # What may stand behind the destination's port test, so that a list of ports ends there.
 TRAILING = ("ack", "dscp", "established", "fin", "fragments", "log", "log-input", "match-all", "match-any", "option", "precedence",
             "psh", "reflect", "rst", "syn", "time-range", "tos", "ttl", "urg")
@@ -76,11 +82,40 @@ def item_of(line, words, greatest):
 
 def names_groups(item):
     """Whether an entry names a group."""
-    return item.words[0] != "remark" and "object-group" in item.words
+    return "object-group" in item.words and item.words[0] != "remark"
+
+
+def port_number(protocol, word):
+    """The number of a port of a protocol, or None where the word is none."""
+    return int(word) if is_number(word) and int(word) <= GREATEST_PORT else PORT_NAMES.get(protocol, {}).get(word)
+
+
+def spares_ports(item):
+    """Whether an entry has a `neq` of several ports."""
+    words = item.words
+    if "neq" not in words or words[0] == "remark":
+        return False
+    return any(words[k] == "neq" and all(port_number(words[1], word) is not None for word in words[k + 1:k + 3])
+               for k in range(len(words) - 2))
+
+
+def has_parts(item):
+    """Whether an entry becomes several."""
+    return names_groups(item) or spares_ports(item)
+
+
+def all_but(ports):
+    """The tests that together hold at all ports but these: the ranges between them."""
+    tests, low = [], 0
+    for port in sorted(set(ports)) + [GREATEST_PORT + 1]:
+        if low < port:
+            tests.append(["range", str(low), str(port - 1)])
+        low = port + 1
+    return tests
 
 
 class Expansion:
-    """An entry with groups, divided into its parts."""
+    """An entry with groups or with several ports that are spared, divided into its parts."""
 
     def __init__(self, item, groups):
         self.item, self.groups = item, groups
@@ -112,15 +147,16 @@ class Expansion:
             return [["any"]]
         return [[word, self.take()]]
 
-    def ports(self):
-        """The port test that the rest begins with, or none."""
+    def ports(self, protocol):
+        """The port tests that the words which the rest begins with stand for: one, or the ranges between the ports that are spared."""
         if self.rest[:1] == [] or self.rest[0] not in PORT_WORDS:
-            return []
+            return [[]]
         words = [self.take()]
-        most = {"range": 2, "eq": 10}.get(words[0], 1)
+        most = {"range": 2, "eq": 10, "neq": 10}.get(words[0], 1)
         while self.rest and len(words) <= most and self.is_port(self.rest[0]):
             words.append(self.rest.pop(0))
-        return words
+        numbers = [port_number(protocol, word) for word in words[1:]]
+        return all_but(numbers) if words[0] == "neq" and len(words) > 2 and None not in numbers else [words]
 
     def is_port(self, word):
         """Whether a word may be a port."""
@@ -128,27 +164,29 @@ class Expansion:
 
     def entries(self):
         """The entries, each as its words: services first, then sources, then destinations, in the order of the groups."""
-        grouped = self.rest[:1] == ["object-group"]
+        grouped, protocol = self.rest[:1] == ["object-group"], (self.rest or [""])[0]
         services = self.services()
-        sources, source_ports = self.endpoints(), self.ports()
-        destinations, destination_ports = self.endpoints(), self.ports()
-        if grouped and (source_ports or destination_ports):
-            raise self.refused("ExtraWord", (source_ports or destination_ports)[0])
+        sources, source_ports = self.endpoints(), self.ports(protocol)
+        destinations, destination_ports = self.endpoints(), self.ports(protocol)
+        if grouped and (source_ports[0] or destination_ports[0]):
+            raise self.refused("ExtraWord", (source_ports[0] or destination_ports[0])[0])
         if "object-group" in self.rest:
             raise self.refused("ExtraWord", "object-group")
-        if len(services) * len(sources) * len(destinations) > MOST_ENTRIES:
-            raise self.refused("TooManyEntries", str(len(services) * len(sources) * len(destinations)))
+        count = len(services) * len(sources) * len(destinations) * len(source_ports) * len(destination_ports)
+        if count > MOST_ENTRIES:
+            raise self.refused("TooManyEntries", str(count))
         action = [self.item.words[0]]
         return [
-            action + [service.protocol] + source + list(service.source or source_ports) + destination
-            + list(service.destination or destination_ports) + list(service.rest) + self.rest
-            for service in services for source in sources for destination in destinations
+            action + [service.protocol] + source + list(service.source or source_test) + destination
+            + list(service.destination or destination_test) + list(service.rest) + self.rest
+            for service in services for source in sources for source_test in source_ports
+            for destination in destinations for destination_test in destination_ports
         ]
 
 
 def expand_list(items, groups):
     """The entries of each item, and the factor of their numbers. A remark is its own only line."""
-    expanded = [Expansion(item, groups).entries() if names_groups(item) else [item.words] for item in items]
+    expanded = [Expansion(item, groups).entries() if has_parts(item) else [item.words] for item in items]
     most = max(len(entries) for entries in expanded)
     greatest = max(item.sequence or 0 for item in items)
     # A thousand where that fits, so that an entry keeps its numbers when its groups grow.
@@ -161,48 +199,54 @@ def expand_list(items, groups):
     return expanded, factor
 
 
-def new_block(name, items, expanded, factor, told):
-    """The list as a section without groups."""
-    first = items[0].line
-    block = Block(Line("ip access-list extended %s" % name, first.path, first.number))
+def new_block(name, head, items, factor_and_entries, told):
+    """The list as a section without groups, with the place of its own line if it is a section, each entry with the number that the device
+    has."""
+    expanded, factor = factor_and_entries
+    reason = "as the list has groups" if any(map(names_groups, items)) else "as an entry spares several ports"
+    block = Block(head.again("ip access-list extended %s" % name))
     for item, entries in zip(items, expanded):
         if item.sequence is None:
             if item.line.words() != item.words:
-                told.line(item.line, "replaced", "it stands in the section of list %s, as the list has groups" % name)
+                told.line(item.line, "replaced", "it stands in the section of list %s, %s" % (name, reason))
             block.body.append(item.line.again(" " + " ".join(item.words)))
             continue
-        if names_groups(item):
+        if has_parts(item):
             text = " ".join(item.words)
             block.body.append(item.line.again(" remark entry %d: %s" % (item.sequence, text)))
-            told.line(item.line, "expanded", "%d entries of list %s from number %d on, by its groups"
-                      % (len(entries), name, item.sequence * factor))
+            told.line(item.line, "expanded", "%d entries of list %s from number %d on, by its %s"
+                      % (len(entries), name, item.sequence * factor, "groups" if names_groups(item) else "ports"))
         elif " ".join(item.line.words()) != "%d %s" % (item.sequence * factor, " ".join(item.words)):
-            told.line(item.line, "replaced", "its number in list %s is %d, as the list has groups" % (name, item.sequence * factor))
+            told.line(item.line, "replaced", "its number in list %s is %d, %s" % (name, item.sequence * factor, reason))
         for k, words in enumerate(entries):
-            block.body.append(item.line.again(" %d %s" % (item.sequence * factor + k, " ".join(words))))
+            block.body.append(item.line.again(" %d %s" % (item.sequence * factor + k, " ".join(words)), item.sequence))
     return block
 
 
 def check_names(blocks, lists):
     """A list of another kind, or an entry of a kind that isn't known here, may not name a group."""
     for block in blocks:
-        if list_name(block) in lists or is_group(block):
+        if block.words()[:2] != ["ip", "access-list"] or list_name(block) in lists:
             continue
         for line in block.lines():
-            words = line.words()
-            if not block.is_banner and block.words()[:2] == ["ip", "access-list"] and words[1:2] != ["remark"] and "object-group" in words[:4]:
+            words = line.words() if "object-group" in line.text else []
+            if words[1:2] != ["remark"] and "object-group" in words[:4]:
                 raise line.refused("NotCovered", "object-group")
 
 
 def expand_groups(device, told):
     """Expands the groups of all lists of a device. What is left of the groups goes, since no line names them."""
+    if not any("object-group" in line.text or "neq" in line.text for block in device.blocks for line in block.lines()):
+        return
     groups = Groups(device.blocks)
-    lists = {name: items for name, items in items_of(device.blocks).items() if any(map(names_groups, items))}
+    lists = {name: items for name, items in items_of(device.blocks).items() if any(map(has_parts, items))}
     check_names(device.blocks, lists)
     for name, items in lists.items():
         if is_number(name) and not (100 <= int(name) <= 199 or 2000 <= int(name) <= 2699):
-            raise next(item for item in items if names_groups(item)).line.refused("NotCovered", "object-group")
-    new = {name: new_block(name, items, *expand_list(items, groups), told) for name, items in lists.items()}
+            first = next(item for item in items if has_parts(item))
+            raise first.line.refused("NotCovered", "object-group" if names_groups(first) else "neq")
+    heads = {list_name(block): block.head for block in reversed(device.blocks)}
+    new = {name: new_block(name, heads[name], items, expand_list(items, groups), told) for name, items in lists.items()}
     blocks = []
     for block in device.blocks:
         name = list_name(block)

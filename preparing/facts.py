@@ -1,4 +1,5 @@
 """What the covered lines of a configuration say: its hostname, its interfaces with their addresses, its static routes."""
+import functools
 from dataclasses import dataclass, field
 
 from .addresses import address_of, is_number, length_of, mask_of
@@ -95,8 +96,9 @@ def is_static(block):
     return block.words()[:2] == ["ip", "route"] and block.words()[2:3] not in (["profile"], ["static"])
 
 
+@functools.lru_cache(maxsize=1 << 12)
 def static_of(line):
-    """The static route of a line."""
+    """The static route of a line, which several steps ask for."""
     words, vrf = line.words()[2:], None
     if words[:1] == ["vrf"]:
         vrf, words = (words[1:2] or [""])[0], words[2:]

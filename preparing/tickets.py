@@ -10,34 +10,59 @@ from .editing import Editor
 from .facts import hostname_of, static_of, subnet_of
 from .faults import Faults, NotFound, Refused, each
 from .groups import network_words, service_of
+from .list_users import LIST_CHANGES, users_of
+from .other_sections import NOT_IPV4, OtherSections
 from .outputs import check_free, write_folder
+from .section_lines import SectionLines
 from .texts import Line, files_of, read_bytes, read_lines, says_something, to_bytes
 from .told import Told
 
 
-class Ticket:
-    """The lines of a ticket, one after the other, in the mode that the lines before have brought about."""
+INTERFACE_WORDS = known.INTERFACE_COVERED + known.INTERFACE_HARMLESS + known.INTERFACE_MOVING
+INTERFACE_IP_WORDS = known.INTERFACE_IP_COVERED + known.INTERFACE_IP_HARMLESS + known.INTERFACE_IP_MOVING
+
+
+class Ticket(SectionLines, OtherSections):
+    """The lines of a ticket, one after the other, in the mode that the lines before have brought about. `changed` has the prefix lists
+    and route maps that they change, `absent` the lists that they take away and that aren't there, each with its line."""
 
     def __init__(self, editor, told):
         self.editor, self.told = editor, told
         self.mode, self.where = "config", None
         self.begun = False
         self.banner = None
+        self.changed, self.absent = {}, {}
 
     def read(self, line):
         """Takes a line of the ticket."""
         if self.banner is not None:
-            self.banner = None if self.banner in line.text else self.banner
+            self.banner = None if self.closing in line.text else self.banner
             return
         if not says_something(line):
             return
         words = line.words()
         reader = {
             "exec": self.read_exec, "config": self.read_config, "interface": self.read_interface, "list": self.read_list,
-            "group": self.read_group, "line": self.read_console,
+            "group": self.read_group, "line": self.read_console, "range": self.read_range, "vlan": self.read_vlan, "family": self.read_family,
+            "ipv6-list": self.read_ipv6_list, "route-map": self.read_route_map, "router": self.read_router,
         }[self.mode]
         reader(line, words)
         self.begun = True
+
+    def end(self):
+        """The end of the ticket: a list that a `no` takes away has to be there, or to come behind it; and what else is done by the lists
+        that change is told."""
+        if self.banner is not None:
+            raise Refused(self.banner.path, 0, "BannerOpen")
+        for name, line in self.absent.items():
+            if name not in self.editor.lists.lists:
+                raise line.refused("NotThere", name)
+        changed = set(self.changed) | {("access-list", name) for name, edited in self.editor.lists.lists.items() if edited.touched}
+        changed |= {("access-list", name) for name in self.editor.lists.removed}
+        for line, kind, name in users_of(self.editor.blocks):
+            if (kind, name) in changed:
+                place = "%s line %d, %s" % (os.path.basename(line.path), line.number, " ".join(line.words()))
+                self.told.row(0, 0, "not followed", place, LIST_CHANGES % name)
 
     def tell(self, line, what, reason):
         """Tells what a line of the ticket does."""
@@ -49,6 +74,11 @@ class Ticket:
         count = 2 if words[0].lower() == "no" else 1
         text = " ".join(words[:count] + ([".."] if len(words) > count else []))
         self.told.row(line.number, line.number, "no effect", text, "the rules say nothing of it")
+
+    @staticmethod
+    def word_or_none(line, word, covered, others=()):
+        """The word that a written one stands for, or None where it begins none of these."""
+        return resolve_or_none(line, word, covered, others)
 
     def leave(self, mode="config", where=None):
         """Goes to another mode; `where` is its interface, its list or its group."""
@@ -88,12 +118,14 @@ class Ticket:
         word = resolve(line, words[0], known.GLOBAL_COVERED + known.GLOBAL_HARMLESS, known.GLOBAL_OTHERS)
         readers = {
             "hostname": self.hostname, "interface": self.interface, "access-list": self.numbered, "ip": self.ip, "no": self.no,
-            "object-group": self.group,
+            "object-group": self.group, "default": self.default, "vlan": self.vlan, "ipv6": self.ipv6, "router": self.router,
+            "route-map": lambda line, words: self.route_map(line, words, False),
         }
         if word in readers:
             readers[word](line, words[1:])
         elif word == "banner":
-            self.banner = banner_delimiter(line)
+            self.closing = banner_delimiter(line)
+            self.banner = line if self.closing is not None else None
             self.tell_harmless(line)
         elif word == "exit":
             self.leave("exec")
@@ -102,7 +134,10 @@ class Ticket:
         elif word in known.GLOBAL_HARMLESS:
             if word == "line":
                 self.leave("line")
-            self.tell_harmless(line)
+            if word == "system" and len(words) > 1 and words[1].lower() == "mtu":
+                self.move(line)
+            else:
+                self.tell_harmless(line)
         else:
             raise line.refused("NotCovered", word)
 
@@ -143,8 +178,11 @@ class Ticket:
         """`interface W`: opens a section."""
         if not words:
             raise line.refused("MissingWord")
-        if words[0].lower() == "range":
-            raise line.refused("NotCovered", "range")
+        if len(words[0]) > 1 and "range".startswith(words[0].lower()):
+            names = self.editor.interfaces_of_range(line, words[1:])
+            self.leave("range", names)
+            self.tell(line, "opens", ", ".join(names))
+            return
         kind = []
         if len(words) > 1 and words[-1].lower() in ("point-to-point", "multipoint"):
             words, kind = words[:-1], [words[-1].lower()]
@@ -154,8 +192,32 @@ class Ticket:
         self.leave("interface", name)
         self.tell(line, "makes" if made else "opens", name)
 
+    def default(self, line, words):
+        """`default interface W`: nothing of its section stays but whether it is shut."""
+        if not words:
+            raise line.refused("MissingWord")
+        need(line, words[0], ("interface",), known.GLOBAL_COVERED + known.GLOBAL_HARMLESS + known.GLOBAL_OTHERS)
+        if words[1:] and len(words[1]) > 1 and "range".startswith(words[1].lower()):
+            names = self.editor.interfaces_of_range(line, words[2:])
+        else:
+            names = [self.editor.there(line, words[1:])]
+        for name in names:
+            self.editor.reset_interface(line, name)
+        self.tell(line, "removes", "all of %s; it stays %s, which differs between platforms" % (
+            ", ".join(names), " and ".join(sorted({"shut" if self.editor.interface(name).shut else "open" for name in names}))))
+
+    def no_interface(self, line, words):
+        """`no interface W` of a logical interface, with the static routes out of it."""
+        name = self.editor.there(line, words)
+        gone, routes = self.editor.remove_interface(line, name)
+        more = " and %s out of it" % ("a static route" if routes == 1 else "%d static routes" % routes) if routes else ""
+        self.tell(line, "removes", ", ".join(gone) + more)
+
     def numbered(self, line, words):
         """`access-list N ...`: an entry or a remark at the end of the list."""
+        if words and words[0].lower() == "compiled":
+            self.tell_harmless(line)
+            return
         if len(words) < 2:
             raise line.refused("MissingWord")
         name = words[0]
@@ -180,6 +242,8 @@ class Ticket:
             self.tell(line, self.editor.add_rule(line, text), " ".join(text))
         elif word == "access-list":
             self.access_list(line, words[1:])
+        elif word == "prefix-list":
+            self.prefix_list(line, words[1:], False)
         else:
             self.tell_harmless(line)
 
@@ -187,7 +251,10 @@ class Ticket:
         """`ip access-list`: opens a section, or gives new numbers."""
         if not words:
             raise line.refused("MissingWord")
-        kind = need(line, words[0], known.ACCESS_LIST_KINDS, known.ACCESS_LIST_KINDS_OTHERS)
+        kind = need(line, words[0], known.ACCESS_LIST_KINDS + known.ACCESS_LIST_SETTINGS, known.ACCESS_LIST_KINDS_OTHERS)
+        if kind in known.ACCESS_LIST_SETTINGS:
+            self.tell_harmless(line)
+            return
         if kind == "resequence":
             exactly(line, words, 4)
             for word in words[2:]:
@@ -216,10 +283,17 @@ class Ticket:
         word = resolve(line, words[0], known.GLOBAL_COVERED + known.GLOBAL_HARMLESS, known.GLOBAL_OTHERS)
         rest = words[1:]
         if word == "access-list":
-            exactly(line, rest, 1)
-            self.tell(line, "removes", self.editor.lists.remove(line, rest[0], known_kind(line, rest[0])))
+            self.no_numbered(line, rest)
         elif word == "ip":
             self.no_ip(line, rest)
+        elif word == "interface":
+            self.no_interface(line, rest)
+        elif word == "vlan":
+            self.vlan(line, rest, True)
+        elif word == "ipv6":
+            self.tell(line, "no effect", NOT_IPV4)
+        elif word == "route-map":
+            self.route_map(line, rest, True)
         elif word == "object-group":
             exactly(line, rest, 2)
             kind = need(line, rest[0], known.GROUP_KINDS, known.GROUP_KINDS_OTHERS)
@@ -229,6 +303,22 @@ class Ticket:
             self.tell_harmless(line)
         else:
             raise line.refused("NotCovered", word)
+
+    def no_numbered(self, line, words):
+        """`no access-list N`: the whole list goes, whatever stands behind its number (IOS: access-list)."""
+        exactly_more(line, words, 0)
+        if words[0].lower() == "compiled":
+            self.tell_harmless(line)
+            return
+        self.remove_list(line, words[0], known_kind(line, words[0]), "; IOS takes the whole list away, not this entry alone" if words[1:] else "")
+
+    def remove_list(self, line, name, kind, more=""):
+        """Takes a list away. Where there is none, nothing happens, as long as the ticket makes it behind."""
+        if name in self.editor.lists.lists:
+            self.tell(line, "removes", self.editor.lists.remove(line, name, kind) + more)
+        else:
+            self.absent[name] = line
+            self.tell(line, "no effect", "there is no list %s before it" % name)
 
     def no_ip(self, line, words):
         """`no ip route`, `no ip nat`, `no ip access-list`."""
@@ -245,9 +335,15 @@ class Ticket:
             self.editor.remove_rule(line, text)
             self.tell(line, "removes", " ".join(text))
         elif word == "access-list":
-            exactly(line, words, 3)
-            kind = need(line, words[1], ("standard", "extended"), known.ACCESS_LIST_KINDS_OTHERS + ("resequence",))
-            self.tell(line, "removes", self.editor.lists.remove(line, words[2], kind))
+            kind = need(line, words[1], ("standard", "extended") + known.ACCESS_LIST_SETTINGS, known.ACCESS_LIST_KINDS_OTHERS + ("resequence",)) \
+                if words[1:] else None
+            if kind in known.ACCESS_LIST_SETTINGS:
+                self.tell_harmless(line)
+            else:
+                exactly(line, words, 3)
+                self.remove_list(line, words[2], kind)
+        elif word == "prefix-list":
+            self.prefix_list(line, words[1:], True)
         else:
             self.tell_harmless(line)
 
@@ -255,10 +351,9 @@ class Ticket:
 
     def read_interface(self, line, words):
         """A command in the section of an interface."""
-        if self.is_global_ip(line, words) or self.falls_back(
-                line, words, known.INTERFACE_COVERED + known.INTERFACE_HARMLESS, known.INTERFACE_OTHERS):
+        if self.is_global(line, words) or self.is_global_ip(line, words) or self.falls_back(line, words, INTERFACE_WORDS, known.INTERFACE_OTHERS):
             return
-        word = resolve(line, words[0], known.INTERFACE_COVERED + known.INTERFACE_HARMLESS, known.INTERFACE_OTHERS)
+        word = resolve(line, words[0], INTERFACE_WORDS, known.INTERFACE_OTHERS)
         if word == "exit":
             self.leave()
         elif word in ("end", "do"):
@@ -270,18 +365,53 @@ class Ticket:
             self.interface_ip(line, words[1:], False)
         elif word == "no":
             self.interface_no(line, words[1:])
+        else:
+            self.interface_other(line, word, words[1:], False)
+
+    def interface_other(self, line, word, words, is_no):
+        """The commands of an interface that the rules of packets say little of."""
+        if word == "switchport":
+            self.switchport(line, words, is_no)
+        elif word == "encapsulation":
+            self.encapsulation(line, words, is_no)
+        elif word in known.GATEWAY_WORDS:
+            self.gateway(line, word, words, is_no)
+        elif word == "ipv6":
+            self.tell(line, "no effect", NOT_IPV4)
+        elif word in known.INTERFACE_MOVING:
+            self.move(line)
         elif word in known.INTERFACE_HARMLESS:
             self.tell_harmless(line)
         else:
             raise line.refused("NotCovered", word)
 
+    def read_range(self, line, words):
+        """A command in the section of several interfaces: it is done in each."""
+        names = self.where
+        for name in names:
+            self.leave("interface", name)
+            self.read_interface(line, words)
+            if (self.mode, self.where) != ("interface", name):
+                return
+        self.leave("range", names)
+
+    def is_global(self, line, words):
+        """Whether a line in the section of an interface is one for the margin though its first word is one of the section's too."""
+        first, *rest = [word.lower() for word in words if word.lower() != "no"] or [""]
+        is_global = first == "vlan" or len(first) > 2 and "default".startswith(first) and rest and len(rest[0]) > 2 and "interface".startswith(rest[0])
+        if is_global or first == "ipv6" and rest and rest[0] in known.IPV6_GLOBAL:
+            self.leave()
+            self.read_config(line, words)
+            return True
+        return False
+
     def is_global_ip(self, line, words):
         """Whether an `ip` line in the section of an interface is one for the margin, as `ip route` or `ip nat inside source` are."""
         words = words[1:] if len(words) > 1 and words[0].lower() == "no" else words
-        if len(words) < 2 or resolve_or_none(line, words[0], known.INTERFACE_COVERED + known.INTERFACE_HARMLESS, known.INTERFACE_OTHERS) != "ip":
+        if len(words) < 2 or resolve_or_none(line, words[0], INTERFACE_WORDS, known.INTERFACE_OTHERS) != "ip":
             return False
         second = words[1].lower()
-        places = known.INTERFACE_IP_COVERED + known.INTERFACE_IP_HARMLESS, known.INTERFACE_IP_OTHERS
+        places = INTERFACE_IP_WORDS, known.INTERFACE_IP_OTHERS
         is_global = second == "route" or resolve_or_none(line, second, *places) is None
         is_global = is_global or resolve_or_none(line, second, *places) == "nat" and len(words) > 3
         if is_global:
@@ -302,23 +432,23 @@ class Ticket:
         """`no` and a command of an interface."""
         if not words:
             raise line.refused("MissingWord")
-        word = resolve(line, words[0], known.INTERFACE_COVERED + known.INTERFACE_HARMLESS, known.INTERFACE_OTHERS)
+        word = resolve(line, words[0], INTERFACE_WORDS, known.INTERFACE_OTHERS)
         if word == "shutdown":
             exactly(line, words[1:], 0)
             self.shut(line, False)
         elif word == "ip":
             self.interface_ip(line, words[1:], True)
-        elif word in known.INTERFACE_HARMLESS:
-            self.tell_harmless(line)
         else:
-            raise line.refused("NotCovered", word)
+            self.interface_other(line, word, words[1:], True)
 
     def interface_ip(self, line, words, is_no):
         """`ip` and `no ip` in the section of an interface."""
         if not words:
             raise line.refused("MissingWord")
-        word = need(line, words[0], known.INTERFACE_IP_COVERED + known.INTERFACE_IP_HARMLESS, known.INTERFACE_IP_OTHERS)
-        if word == "address":
+        word = need(line, words[0], INTERFACE_IP_WORDS, known.INTERFACE_IP_OTHERS)
+        if word in known.INTERFACE_IP_MOVING:
+            self.move(line)
+        elif word == "address":
             self.address(line, words[1:], is_no)
         elif word == "access-group":
             self.access_group(line, words[1:], is_no)
@@ -586,25 +716,47 @@ def member_words(line, kind, words):
     return words
 
 
-def apply_one(words, file):
-    """The new text of one configuration, with the table of what its ticket did; None as table where it has no ticket."""
-    path = os.path.join(words.configs, file)
-    ticket = os.path.join(words.tickets, file[:-len(".cfg")] + ".txt")
-    if not os.path.exists(ticket):
+def tickets_of(folder, stem, stems):
+    """The tickets of a device in the order in which they are applied: `R1.txt`, and then `R1.2.txt` and others behind a dot, by their names."""
+    names = [name for name in sorted(os.listdir(folder), key=os.fsencode) if name.endswith(".txt") and stem_of(name, stems) == stem]
+    names.sort(key=lambda name: name != stem + ".txt")
+    return [os.path.join(folder, name) for name in names]
+
+
+def stem_of(name, stems):
+    """The device of a ticket by its name: the longest name of a device that the ticket's own is, or begins with behind a dot. None where
+    there is none."""
+    name = name[:-len(".txt")]
+    while name and name not in stems:
+        name = name.rpartition(".")[0]
+    return name or None
+
+
+def apply_tickets(blocks, tickets, told):
+    """The blocks of a configuration with its tickets applied, one after the other. The rows of each ticket are those of its file."""
+    for ticket, table in zip(tickets, told):
+        work = Ticket(Editor(blocks), table)
+        for line in read_lines(ticket):
+            work.read(line)
+        work.end()
+        tell_missing_lists(work.editor, table)
+        blocks = work.editor.result()
+    return blocks
+
+
+def apply_one(words, file, stems=None):
+    """The new text of one configuration, with the tables of what its tickets did; None as tables where it has no ticket."""
+    path, stem = os.path.join(words.configs, file), file[:-len(".cfg")]
+    tickets = tickets_of(words.tickets, stem, stems or {stem})
+    if not tickets:
         return file, read_bytes(path), None
     notes = []
     blocks = blocks_of(read_lines(path, notes))
     hostname_of(path, blocks)
-    told = Told("%s with %s" % (path, ticket))
-    for note in notes:
-        told.row(0, 0, "left out", note, "the verifier's lines end at a line feed")
-    work = Ticket(Editor(blocks), told)
-    for line in read_lines(ticket):
-        work.read(line)
-    if work.banner is not None:
-        raise Refused(ticket, 0, "BannerOpen")
-    tell_missing_lists(work.editor, told)
-    return file, to_bytes(lines_of(work.editor.result())), told
+    told = [Told("%s with %s" % (path, ticket)) for ticket in tickets]
+    for number, text, reason in notes:
+        told[0].row(number, number, "left out", text, reason)
+    return file, to_bytes(lines_of(apply_tickets(blocks, tickets, told))), told
 
 
 def tell_missing_lists(editor, told):
@@ -622,23 +774,25 @@ def tell_missing_lists(editor, told):
 def check_tickets(words, files):
     """Each ticket is for a configuration that is there."""
     tickets, others = files_of(words.tickets, ".txt")
+    stems = {file[:-len(".cfg")] for file in files}
     faults = [Refused(os.path.join(words.tickets, name), 0, "NotATicket") for name in others if not name.startswith(".")]
-    faults += [NotFound(os.path.join(words.configs, name[:-len(".txt")] + ".cfg")) for name in tickets if name[:-len(".txt")] + ".cfg" not in files]
+    faults += [NotFound(os.path.join(words.configs, name[:-len(".txt")] + ".cfg")) for name in tickets if stem_of(name, stems) is None]
     if faults:
         raise Faults(faults)
+    return stems
 
 
 def apply(words):
     """Applies all tickets and writes the new folder; gives the lines that tell what was done."""
     check_free(words.out)
     files, _ = files_of(words.configs, ".cfg")
-    check_tickets(words, files)
-    done = each(files, lambda file: apply_one(words, file))
+    stems = check_tickets(words, files)
+    done = each(files, lambda file: apply_one(words, file, stems))
     if words.check:
         check([new_lines(words, file, content) for file, content, _ in done])
     write_folder(words.out, [(file, content) for file, content, _ in done])
     return [line for file, _, told in done
-            for line in (told.lines() if told else ["%s: no ticket" % os.path.join(words.configs, file)])]
+            for line in ([line for table in told for line in table.lines()] if told else ["%s: no ticket" % os.path.join(words.configs, file)])]
 
 
 def new_lines(words, file, content):

@@ -18,10 +18,12 @@ def without_secrets(text):
 
 @dataclass
 class Told:
-    """What was done to one file: rows of a place, what was done there, the line, and the reason."""
+    """What was done to one file: rows of a place, what was done there, the line, and the reason. `path` is the file whose lines have
+    numbers in the table."""
 
     title: str
     rows: list = field(default_factory=list)
+    path: str = None
 
     def row(self, first, last, what, text, reason):
         """A row for the lines from one number to another; 0 is the whole file."""

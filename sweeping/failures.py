@@ -76,9 +76,11 @@ class Failure:
 
 
 class Devices:
-    """The devices of the networks: for each version the file and the configuration of each hostname."""
+    """The devices of the networks: for each version the file and the configuration of each hostname. `below` says whether subinterfaces
+    go down with their main interface."""
 
-    def __init__(self, folders):
+    def __init__(self, folders, below=True):
+        self.below = below
         self.by_name = {version: {} for version in folders}
         for version, files in folders.items():
             for file in sorted(files):
@@ -96,12 +98,14 @@ class Devices:
                     yield version, devices[device][0], interface
 
     def changes(self, places):
-        """For each version the interfaces of these places, by file, as far as there are sections of them."""
+        """For each version the interfaces of these places, by file, as far as there are sections of them, and those below them."""
         changes = {version: {} for version in self.by_name}
         for device, interface in places:
             for version, devices in self.by_name.items():
                 if device in devices and interface in devices[device][1].ends:
-                    changes[version].setdefault(devices[device][0], []).append(interface)
+                    shut = changes[version].setdefault(devices[device][0], [])
+                    more = [name for name in devices[device][1].ends if self.below and name.startswith(interface + ".")]
+                    shut += [name for name in [interface] + more if name not in shut]
         return changes
 
     def interfaces(self, device):

@@ -14,9 +14,12 @@ import traceback
 import failures
 import runners
 import windows
+from as_running import as_running
 from gather import gather
 from plan import Plan, kit_name
 from words import read_words
+
+from preparing.marks import marks_told
 
 HERE = os.path.dirname(os.path.abspath(__file__))
 TOP = os.path.dirname(HERE)
@@ -79,17 +82,21 @@ def read_file(path):
 
 
 class Inputs:
-    """All that a sweep reads, as bytes: the configurations of each version, the link table, the questions."""
+    """All that a sweep reads, as bytes: the configurations of each version, the link table, the questions. Configurations are as routers
+    run them, where nothing else is said; `written` tells whether one of them is another text then."""
 
-    def __init__(self, words):
-        command, *paths = words
+    def __init__(self, read):
+        command, *paths = read.words
         names = ("old", "new", "links") if command == "compare" else ("old", "links", "questions")
         self.paths = dict(zip(names, paths))
-        self.folders, self.files = {}, {}
+        self.folders, self.files, self.written = {}, {}, False
         for name, path in self.paths.items():
             if name in failures.VERSIONS:
                 files = sorted(file for file in os.listdir(path) if file.endswith(".cfg"))
-                self.folders[name] = {file: read_file(os.path.join(path, file)) for file in files}
+                texts = {file: read_file(os.path.join(path, file)) for file in files}
+                running = texts if keeps_texts(read) else {file: as_running(text) for file, text in texts.items()}
+                self.written = self.written or running != texts
+                self.folders[name] = running
             else:
                 self.files[name] = read_file(path)
 
@@ -100,10 +107,15 @@ class Inputs:
         yield from self.files.items()
 
 
-def read_inputs(words):
+def keeps_texts(read):
+    """Whether configurations are taken as they are written: where that is asked, and where no failure is."""
+    return bool(read.as_written or read.by_ingress)
+
+
+def read_inputs(read):
     """The inputs, or None where a file can't be read: the program then says why."""
     try:
-        return Inputs(words)
+        return Inputs(read)
     except OSError:
         return None
 
@@ -119,7 +131,7 @@ def options_of(read):
 
 def digest_of(read, inputs, programs):
     """A number that tells this sweep from any other: its words, its inputs, its programs."""
-    digest = hashlib.sha256(json.dumps([read.words, options_of(read), bool(read.pairs), read.by_ingress]).encode("ascii"))
+    digest = hashlib.sha256(json.dumps([read.words, options_of(read), bool(read.pairs), read.by_ingress, keeps_texts(read)]).encode("ascii"))
     contents = list(inputs.items()) + [(program.name, read_file(program.file)) for program in programs]
     contents += [(script, read_file(os.path.join(HERE, script))) for script in SCRIPTS + ("windows.py",)]
     for name, text in contents:
@@ -131,7 +143,7 @@ def digest_of(read, inputs, programs):
 def find_failures(read, inputs):
     """The failures, the jobs, the names of failures that change nothing, and the sections that aren't there."""
     texts = {version: {file: text.decode("latin-1") for file, text in files.items()} for version, files in inputs.folders.items()}
-    devices, table = failures.Devices(texts), inputs.files["links"].decode("latin-1")
+    devices, table = failures.Devices(texts, not keeps_texts(read)), inputs.files["links"].decode("latin-1")
     found = failures.single_failures(devices, table)
     possible = [number for number, failure in enumerate(found) if failure.is_possible()]
     jobs = [str(number) for number in possible]
@@ -179,19 +191,24 @@ def write_plan(kit, read, digest, inputs):
     write_file(os.path.join(kit, "plan.json"), json.dumps(plan).encode("ascii"))
 
 
+def answer(read, programs, kit, words):
+    """Runs the command without failure on these words, and keeps the answer in the kit, to compare with."""
+    review, *others = programs
+    output = os.path.join(kit, "output")
+    review.run(words + (["--ttl", read.ttl] if read.ttl else []), output)
+    if read.words[0] == "ask":
+        os.replace(output, os.path.join(kit, "without"))
+    else:
+        others[0].run([output], os.path.join(kit, "without"))
+
+
 def judge(read, programs, kit):
     """Runs the command on the networks as they stand: what is refused is told as the program tells it, and nothing else is run. The
     answer is kept in the kit, to compare with. For parts of the ingresses it is enough that all is accepted: a TTL of 1 tells that soon."""
-    review, *others = programs
-    output = os.path.join(kit, "output")
     if read.by_ingress:
-        review.run(read.words + ["--ttl", "1"], output)
+        programs[0].run(read.words + ["--ttl", "1"], os.path.join(kit, "output"))
     else:
-        review.run(read.words + (["--ttl", read.ttl] if read.ttl else []), output)
-    if read.words[0] == "ask":
-        os.replace(output, os.path.join(kit, "without"))
-    elif not read.by_ingress:
-        others[0].run([output], os.path.join(kit, "without"))
+        answer(read, programs, kit, read.words)
 
 
 def make_kit(read, programs, digest, inputs, folder):
@@ -200,13 +217,15 @@ def make_kit(read, programs, digest, inputs, folder):
     shutil.rmtree(making, ignore_errors=True)
     os.makedirs(making)
     judge(read, programs, making)
-    again = read_inputs(read.words)
+    again = read_inputs(read)
     if inputs is None or again is None or dict(again.items()) != dict(inputs.items()):
         raise Stop(4, "sweep: files changed while they were read\n")
     for name, text in inputs.items():
         write_file(os.path.join(making, name), text)
     for version in inputs.folders:
         os.makedirs(os.path.join(making, version), exist_ok=True)
+    if inputs.written:
+        answer(read, programs, making, [read.words[0]] + [os.path.join(making, name) for name in inputs.paths])
     for script in SCRIPTS:
         shutil.copy(os.path.join(HERE, script), making)
     shutil.copy(os.path.join(TOP, "launch"), making)
@@ -246,7 +265,7 @@ def find_programs(read):
 def prepare(read):
     """Finds the folder of this sweep, or makes it; gives the folder, the plan and what holds the folder."""
     programs = find_programs(read)
-    inputs = read_inputs(read.words)
+    inputs = read_inputs(read)
     if inputs is None:
         programs[0].run(read.words, os.devnull)
         raise Stop(4, "sweep: files changed while they were read\n")
@@ -274,7 +293,7 @@ def show(read, folder, plan):
     for version in plan.versions:
         target = os.path.join(folder, "shown", identities[0], version)
         shutil.rmtree(target, ignore_errors=True)
-        failures.write_failed(paths[version], target, changes[version])
+        failures.write_failed(plan.path(version), target, changes[version])
         paths[version] = target
     program = os.path.abspath(os.environ.get("DIQENYU_REVIEW") or os.path.join(TOP, "review"))
     words = [program, plan.command] + list(paths.values()) + (["--ttl", read.ttl] if read.ttl else [])
@@ -286,6 +305,7 @@ def sweep(words):
     """Does what the words say; gives the status."""
     read = read_words(words)
     folder, plan, _lock = prepare(read)
+    tell_marks(read)
     if read.show is not None:
         return show(read, folder, plan)
     if read.slurm:
@@ -300,6 +320,12 @@ def sweep(words):
         # What was asked is told, and the folder was none that the caller named.
         shutil.rmtree(folder)
     return status
+
+
+def tell_marks(read):
+    """Tells what no answer on these networks can know, as prepared texts say it."""
+    for line in marks_told(read.words[1:3] if read.words[0] == "compare" else read.words[1:2]):
+        sys.stderr.buffer.write(line.encode("utf-8", "surrogateescape") + b"\n")
 
 
 def interrupt(*_):

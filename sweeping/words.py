@@ -15,6 +15,7 @@ options:
   --copy             copy what the jobs read to these machines, which don't see FOLDER
   --slurm            one array job by sbatch, and a job that gathers behind it
   --jobs-only        a job for each failure, also where rollout tells of many at once (ask)
+  --as-written       defaults by next hop alone and subinterfaces as the texts have them
   --workers N, --ttl T    of each run, as for review
 """
 
@@ -49,7 +50,7 @@ def read_words(words):
     """The command and its options, as they are checked."""
     parser = Parser(add_help=False, allow_abbrev=False)
     parser.add_argument("words", nargs="*")
-    for flag in ("--pairs", "--copy", "--slurm", "--jobs-only"):
+    for flag in ("--pairs", "--copy", "--slurm", "--jobs-only", "--as-written"):
         parser.add_argument(flag, action=Once, nargs=0, default=False)
     for option in ("--show", "--folder"):
         parser.add_argument(option, action=Once)

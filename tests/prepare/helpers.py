@@ -1,8 +1,11 @@
 """What the tests have in common: folders of texts, runs of the programs, and the verifier where it is built."""
+import calendar
 import os
+import shutil
 import subprocess
 import sys
 import tempfile
+import time
 import unittest
 
 TOP = os.path.dirname(os.path.dirname(os.path.dirname(os.path.abspath(__file__))))
@@ -10,6 +13,26 @@ sys.path.insert(0, TOP)
 sys.path.insert(0, os.path.join(TOP, "tests"))
 BUILT = os.environ.get("DIQENYU_REVIEW") or os.path.join(TOP, "crates/review_cli/out/review_cli")
 needs_review = unittest.skipUnless(os.access(BUILT, os.X_OK), "the verifier isn't built; DIQENYU_REVIEW names another one")
+
+# The day of all tables of routes.
+DAY = "2026-03-05"
+
+
+def set_day(folder):
+    """Gives all files of a folder the day."""
+    seconds = calendar.timegm(time.strptime(DAY, "%Y-%m-%d"))
+    for name in os.listdir(folder):
+        os.utime(os.path.join(folder, name), (seconds, seconds))
+
+
+def remove_folder(path):
+    """Takes a folder away, if it is there."""
+    shutil.rmtree(path, ignore_errors=True)
+
+
+def review(*words):
+    """A run of the verifier."""
+    return subprocess.run([BUILT, *words], capture_output=True, check=False)
 
 
 class Folders(unittest.TestCase):

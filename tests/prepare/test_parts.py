@@ -1,4 +1,5 @@
 """Switch ports, port channels, VRFs, virtual addresses, static routes and the second source of routes, by the whole program."""
+import shutil
 import unittest
 
 import helpers
@@ -14,6 +15,7 @@ class Parts(helpers.Folders):
     def prepared(self, lines, *words):
         """The lines of the prepared configuration and the rows of its table."""
         self.write("raw/R1.cfg", lines)
+        shutil.rmtree(self.path("out"), ignore_errors=True)
         status, told = self.run_program("prepare", "raw", "out", *words)
         self.assertEqual(status, 0, told)
         return self.read("out/R1.cfg").rstrip("\n").split("\n"), [" ".join(row.split()) for row in told.rstrip("\n").split("\n")[1:]]
@@ -160,7 +162,15 @@ class Gateways(Parts):
 
 
 class Routes(Parts):
-    """Routes as they stand."""
+    """Routes as they stand. A text that has them bears a mark with the day of its table."""
+
+    def prepared(self, lines, *words):
+        if "--routes" not in words:
+            return super().prepared(lines, *words)
+        helpers.set_day(self.path("routes"))
+        found, told = super().prepared(lines, *words)
+        self.assertEqual(found[0], "! routes of R1.txt of %s: protocols don't react" % helpers.DAY)
+        return found[1:], told
 
     def table(self, *lines):
         self.write("routes/R1.txt", LEGEND + CONNECTED + list(lines))
@@ -241,7 +251,9 @@ class Routes(Parts):
         text = CORE + ["ip default-network 172.16.0.0", "ip route 172.16.0.0 255.255.0.0 10.0.0.2"]
         self.refused(text, "refused routes/R1.txt line 3 NotCovered 172.16.0.0", "--routes", "routes", "--keep-static")
         found, _ = self.prepared(text, "--routes", "routes")
-        self.assertEqual(found, CORE + ["ip route 172.16.0.0 255.255.0.0 10.0.0.2", "ip route 0.0.0.0 0.0.0.0 10.0.0.2"])
+        self.assertEqual(found, CORE + ["ip route 172.16.0.0 255.255.0.0 10.0.0.2", "ip route 0.0.0.0 0.0.0.0 Ethernet0 10.0.0.2"])
+        found, _ = super().prepared(text, "--routes", "routes", "--as-written")
+        self.assertEqual(found[-1], "ip route 0.0.0.0 0.0.0.0 10.0.0.2")
 
     def cef(self, *lines):
         self.write("routes/R1.cef", ["Prefix               Next Hop             Interface", "0.0.0.0/0            no route",

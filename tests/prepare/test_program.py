@@ -7,7 +7,8 @@ import unittest
 import helpers
 
 USAGE = """usage:
-  prepare CONFIGS OUT [--routes FOLDER] [--vrf NAME] [--keep-static] [--active FILE] [--check]
+  prepare CONFIGS OUT [--routes FOLDER] [--vrf NAME] [--keep-static] [--active FILE] [--waivers FILE]
+          [--as-written] [--check]
   prepare --apply TICKETS OLD NEW [--check]
 """
 R1 = ["hostname R1", "interface Ethernet0", " ip address 10.0.0.1 255.255.255.0"]
@@ -101,12 +102,25 @@ class Texts(helpers.Folders):
     def test_pager_and_controls(self):
         for content, wanted in (
             (b"hostname R1\n --More-- interface Ethernet0\n", "line 2 Paged --More--"),
-            (b"hostname R1\n<--- More --->\n", "line 2 Paged --- More ---"),
+            (b"hostname R1\n<--- More ---> interface Ethernet0\n", "line 2 Paged --- More ---"),
+            (b"hostname R1\n interface --More-- \n", "line 2 Paged --More--"),
             (b"hostname R1\n\x08\x08 interface Ethernet0\n", "line 2 ControlCharacter 0x08"),
             ("hostname R1\n".encode("utf-16"), "line 1 ControlCharacter 0x00"),
         ):
             self.write("raw/R1.cfg", content)
             self.assert_refused(3, ["refused raw/R1.cfg " + wanted], "raw", "out")
+
+    def test_pagers_that_are_wiped(self):
+        """What a terminal shows of a pager is cut out, where it is wiped or stands alone; lines keep their numbers."""
+        backs = b"\x08" * 9
+        for content in (b" --More-- " + backs + b"        " + backs + R1[2].encode() + b"\n", b" --More-- \r         \r" + R1[2].encode() + b"\n",
+                        b"--More--\r\x1b[K" + R1[2].encode() + b"\n", b"<--- More --->\n" + R1[2].encode() + b"\n",
+                        b" --More-- \n" + backs + b"         " + backs + R1[2].encode() + b"\n"):
+            self.write("raw/R1.cfg", (R1[0] + "\n" + R1[1] + "\n").encode() + content)
+            shutil.rmtree(self.path("out"), ignore_errors=True)
+            status, told = self.run_program("prepare", "raw", "out")
+            self.assertEqual((status, self.read("out/R1.cfg").split("\n")[:-1]), (0, R1), content)
+            self.assertRegex(told.split("\n")[1], "  3  left out  -+ ?More ?-+: a pager's mark")
 
     def test_other_bytes_and_names(self):
         content = b"hostname R1\ninterface Ethernet0\n description caf\xe9 \xc2\xa0 \xe2\x80\xa8 x\n ip address 10.0.0.1 255.255.255.0\n"
@@ -128,12 +142,12 @@ class Texts(helpers.Folders):
         self.assertEqual((status, told, self.read("out/R1.cfg").split("\n")[:-1]), (0, "raw/R1.cfg, R1\n  nothing was changed\n", lines))
 
     def test_examples_stay(self):
-        """What the verifier accepts already is written as it was, byte for byte."""
+        """What the verifier accepts already is written as it was, byte for byte, where nothing is written as a router runs it."""
         folder = os.path.join(helpers.TOP, "examples")
         for name in sorted(os.listdir(folder)):
             old = os.path.join(folder, name, "old")
             if name != "ospf" and os.path.isdir(old):
-                self.assertEqual(self.run_program("prepare", old, name)[0], 0)
+                self.assertEqual(self.run_program("prepare", old, name, "--as-written")[0], 0)
                 for file in os.listdir(old):
                     with open(os.path.join(old, file), "rb") as one, open(self.path(name, file), "rb") as two:
                         self.assertEqual(one.read(), two.read())
@@ -151,6 +165,7 @@ class Example(helpers.Folders):
         super().setUp()
         self.example = os.path.join(helpers.TOP, "examples", "ospf")
         shutil.copytree(self.example, self.path("examples/ospf"))
+        helpers.set_day(self.path("examples/ospf/routes"))
 
     def assert_same(self, one, two):
         self.assertEqual(sorted(os.listdir(one)), sorted(os.listdir(two)))
@@ -196,7 +211,7 @@ class Check(helpers.Folders):
             "!", "hostname R2", "object-group network A", " host 10.0.0.1", "ip access-list extended L", " permit ip object-group A any fragments"])
         self.write("raw/R3.cfg", ["hostname R3"])
         self.assert_refused(3, [
-            "refused raw/R1.cfg line 4 NotCovered unicast-routing", "refused raw/R1.cfg line 6 NotCovered enable", "refused raw/R1.cfg line 7 NotCovered pim",
+            "refused raw/R1.cfg line 7 NotCovered pim",
             "refused raw/R1.cfg line 8 NotCovered router", "refused raw/R2.cfg line 6 NotCovered fragments"], "raw", "out", "--check")
         self.assertEqual(self.run_program("prepare", "raw", "out")[0], 0)
 
