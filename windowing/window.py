@@ -7,8 +7,16 @@ import tempfile
 import traceback
 
 import answers
+import documents
+import expecting
 import telling
+from bringing import bring
+from causes import Unfaithful
+from comparing import found_in
+from deciding import Deciding, helped, no_causes
+from lines import find_causes
 from programs import Stop, run
+from statuses import causes_in, status_of
 from words import USAGE, Usage, read_words
 
 # Which program it is.
@@ -18,9 +26,11 @@ VERSION = "window of Diqenyu, schema 1"
 class Window:
     """The files of one run, in a folder that goes with it."""
 
-    def __init__(self, words, folder):
+    def __init__(self, words, folder, origins):
         self.words = words
         self.folder = folder
+        self.origins = origins
+        self.deciding = Deciding(words, folder, origins.rewritten)
 
     def path(self, name):
         """A file of the folder."""
@@ -34,42 +44,71 @@ class Window:
         return answers.notes_of(self.path("notes"))
 
     def compare(self, notes):
-        """How many rows the report has at each ingress, and what becomes of the packets there."""
-        words = self.words
+        """The report of the comparison, with the edges that are to be ingresses."""
+        words, tables = self.words, self.deciding.tables()
         try:
-            run("review", ["compare", words.old, words.new] + words.tables(), self.path("report"))
+            run("review", ["compare", words.old, words.new] + tables, self.path("report"))
         except Stop as stop:
-            raise Stop(stop.status, b"".join(line.encode("utf-8", "surrogateescape") + b"\n" for line in notes) + stop.told) from None
-        run("view", [self.path("report")], self.path("shown"))
-        return answers.rows_of(self.path("report")), answers.kinds_of(self.path("shown"))
+            told = helped(stop, words.tables(), self.refuses).told
+            raise Stop(stop.status, b"".join(line.encode("utf-8", "surrogateescape") + b"\n" for line in notes) + told) from None
+        if words.all_edges and not self.deciding.added:
+            self.deciding.add_edges()
+            return self.compare(notes) if self.deciding.added else self.report()
+        return self.report()
 
-    def ask(self):
-        """The questions, and the numbers of those that fail before the change and after it."""
+    def report(self):
+        """The report's text."""
+        with open(self.path("report"), encoding="utf-8", errors="surrogateescape", newline="\n") as stream:
+            return stream.read()
+
+    def refuses(self, side, line):
+        """Whether one network by itself is refused with this line."""
         words = self.words
-        if not words.questions:
-            return None, [], []
-        run("review", ["ask", words.old, words.links, words.questions], self.path("before"))
-        run("review", ["ask", words.new, words.tables()[-1], words.questions], self.path("after"))
-        asked = answers.questions_of(words.questions)
-        return asked, answers.failed_of(self.path("before")), answers.failed_of(self.path("after"))
+        network = [words.old, words.links] if side == "old" else [words.new, words.tables()[-1]]
+        try:
+            run("review", ["trace", *network, "none", "none", "0.0.0.0,0.0.0.0,0,0,0,0"], self.path("refused"))
+        except Stop as stop:
+            return stop.told.rstrip(b"\n").endswith(line)
+        return False
+
+    def causes(self):
+        """What each changed line does, and why nobody can tell where nobody can."""
+        words, work = self.words, self.path("lines")
+        os.mkdir(work)
+        try:
+            return find_causes(words.old, words.new, self.deciding.tables(), found_in(self.path("report")), work,
+                               self.origins, words.finer), ""
+        except Unfaithful as unfaithful:
+            return None, "the changed files aren't read here as `review` reads them (%s)" % unfaithful
+
+    def decide(self, notes, warnings):
+        """What is to be told, with the lines of which it comes."""
+        report = self.compare(notes)
+        causes, untold = (None, "") if self.words.no_lines else self.causes()
+        result = self.deciding.decide(report, warnings, causes.of if causes else no_causes)
+        result.lines_untold = untold
+        if causes:
+            result.lines, result.idle, result.beside = causes.lines, causes.idle, causes.beside
+            result.holds_back, result.notes = causes.holds_back, causes.notes
+        return result
 
     def draw(self):
         """The page, made beside the place where it is to stand."""
         words = self.words
         title = ["--title", words.title] if words.title else []
-        run("view", ["--html"] + title + [self.path("report"), words.tables()[-1]], self.path("page"))
+        run("view", ["--html"] + title + [self.path("report"), self.deciding.tables()[-1]], self.path("page"))
         with open(self.path("page"), "rb") as stream:
             return stream.read()
 
 
-def write_page(path, page):
-    """Writes the page whole or not at all."""
+def write_whole(path, content):
+    """Writes a file whole or not at all."""
     place = os.path.dirname(os.path.abspath(path))
     try:
         with tempfile.NamedTemporaryFile(dir=place, prefix=".window-", delete=False) as stream:
             name = stream.name
             try:
-                stream.write(page)
+                stream.write(content)
                 stream.flush()
                 mask = os.umask(0)
                 os.umask(mask)
@@ -95,18 +134,51 @@ def tell(lines):
 
 def look(words):
     """Does what the words say; gives the status."""
+    fail_on = causes_in(words.fail_on)
     with tempfile.TemporaryDirectory(prefix="diqenyu-window-") as folder:
-        window = Window(words, folder)
-        warnings, limits = window.examine()
-        rows, kinds = window.compare(warnings + limits)
-        questions, before, after = window.ask()
-        page = window.draw() if words.page else None
-    lines = [telling.title_line(words)] + telling.warning_lines(words, warnings)
-    lines += telling.change_lines(rows, kinds) + telling.question_lines(questions, before, after)
-    if page is not None:
-        write_page(words.page, page)
-    tell(lines)
-    return 1 if warnings or any(rows.values()) or after else 0
+        brought = bring(words, folder)
+        window = Window(brought.words, folder, brought.origins)
+        try:
+            warnings, limits = window.examine()
+            result = window.decide(brought.warnings + warnings + limits, warnings)
+            add_warnings(result, brought.warnings, window.deciding)
+            page = window.draw() if words.page else None
+        except Stop as stop:
+            raise brought.own(stop) from None
+        if words.keep:
+            brought.keep(words.keep)
+    result = called_by_engineers(result, words, brought)
+    status = status_of(result, fail_on)
+    files = [(words.page, page)] if words.page else []
+    files += [(path, make(result, status)) for path, make in ((words.json, documents.json_of), (words.sarif, documents.sarif_of),
+                                                              (words.junit, documents.junit_of)) if path]
+    if words.write_expect:
+        files.append((words.write_expect, expecting.written(result.findings).encode("utf-8", "surrogateescape")))
+    for path, content in files:
+        write_whole(path, content)
+    tell(telling.lines_of(result, words.foreign))
+    return status
+
+
+def add_warnings(result, told, deciding):
+    """Adds the warnings of what was prepared, but for those that the baseline has."""
+    sorting, accepted = deciding.sorting(), deciding.accepted()
+    known = [warning for warning in told if sorting.accepted_key(warning) in accepted]
+    result.warnings.new[:0] = [warning for warning in told if warning not in known]
+    result.warnings.accepted[:0] = known
+
+
+def called_by_engineers(result, words, brought):
+    """The result with the paths and lines of the engineer's own files, and what was prepared."""
+    called = brought.origins.called
+    result.title, result.old, result.new = brought.title, words.old, words.new or words.tickets
+    result.as_given = (brought.words.old, brought.words.new, brought.words.links) == (words.old, words.new, words.links)
+    result.tables = tuple(called(table) for table in result.tables)
+    result.lines = [line._replace(path=brought.own_path(line.path, line.at)) for line in result.lines]
+    result.questions = result.questions and [one._replace(path=called(one.path)) for one in result.questions]
+    result.expected = result.expected and result.expected._replace(path=called(result.expected.path))
+    result.prepared, result.last = brought.told, brought.last
+    return result
 
 
 def end(*_):

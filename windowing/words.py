@@ -18,13 +18,37 @@ OPTIONS = (
     Option("--questions", "FILE", "what must be so before the change and after it"),
     Option("--page", "FILE", "the report as a page for a browser"),
     Option("--title", "TEXT", "how the change is called"),
+    Option("--questions-new", "FILE", "what must be so after the change alone"),
+    Option("--expect", "FILE", "what the change is to do; all else is told as unexpected"),
+    Option("--write-expect", "FILE", "write what the change does as such a file, to be approved"),
+    Option("--sources", "FILE", "which sources can be at ingresses, in place of those that are asked"),
+    Option("--foreign", None, "tell packets whose source can't be there one by one"),
+    Option("--all-edges", None, "take each interface where packets can come in as an ingress"),
+    Option("--accept", "FILE", "warnings that are known: they change no status"),
+    Option("--fail-on", "CAUSES", "what gives a status other than 0, with commas, or `none`"),
+    Option("--json", "FILE", "everything as a document"),
+    Option("--sarif", "FILE", "warnings and lines without effect, for a code review system"),
+    Option("--junit", "FILE", "questions and expectations as test cases"),
+    Option("--no-lines", None, "don't look at each changed line by itself"),
+    Option("--finer", None, "each changed line by itself, however many there are"),
+    Option("--tickets", "FOLDER", "in place of NEW: the lines that will be pasted, R1.txt for R1.cfg"),
+    Option("--routes", "FOLDER", "what `show ip route` said, R1.txt for R1.cfg, in place of routing protocols"),
+    Option("--vrf", "NAME", "the interfaces and routes of this VRF alone"),
+    Option("--active", "FILE", "which device is active for each group of HSRP, VRRP and GLBP"),
+    Option("--waivers", "FILE", "lines that may be left out though they are refused, with the reasons"),
+    Option("--as-written", None, "defaults by next hop alone and subinterfaces as the texts have them"),
+    Option("--keep", "FOLDER", "keep what was prepared, and the table of it"),
+    Option("--git", "REPO", "old and new are CONFIGS at two revisions; REV2 is the working tree if left out"),
 )
+# Options that name a file or a folder that is read, so that with --git it is one of the later revision.
+READ_FILES = ("newlinks", "questions", "waivers", "active", "expect", "sources", "accept", "questions_new")
 
 
 def usage_of(options: Iterable[Option]) -> str:
     """The usage, with a line for each option."""
-    lines = ["usage:", "  window OLD NEW LINKS [OPTION ...]", "  window --help | --version", "options:"]
-    lines += ["  %-19s %s" % (option.name + (" " + option.value if option.value else ""), option.help) for option in options]
+    lines = ["usage:", "  window OLD NEW [LINKS] [OPTION ...]", "  window OLD [LINKS] --tickets FOLDER [OPTION ...]",
+             "  window --git REPO REV1 [REV2] CONFIGS LINKS [OPTION ...]", "  window --help | --version", "options:"]
+    lines += ["  %-21s %s" % (option.name + (" " + option.value if option.value else ""), option.help) for option in options]
     return "".join(line + "\n" for line in lines)
 
 
@@ -41,11 +65,33 @@ class Words:
 
     old: str
     new: str
-    links: str
+    links: str  # "" where the table is to be found in the configurations
     newlinks: str | None = None
     questions: str | None = None
     page: str | None = None
     title: str | None = None
+    questions_new: str | None = None
+    expect: str | None = None
+    write_expect: str | None = None
+    sources: str | None = None
+    foreign: bool = False
+    all_edges: bool = False
+    accept: str | None = None
+    fail_on: str | None = None
+    json: str | None = None
+    sarif: str | None = None
+    junit: str | None = None
+    no_lines: bool = False
+    finer: bool = False
+    tickets: str | None = None
+    routes: str | None = None
+    vrf: str | None = None
+    active: str | None = None
+    waivers: str | None = None
+    as_written: bool = False
+    keep: str | None = None
+    git: str | None = None
+    revisions: tuple[str, ...] = ()
 
     def tables(self) -> list[str]:
         """The link tables, one for both networks or one for each."""
@@ -84,6 +130,24 @@ def read_words(given: list[str]) -> Words:
         if name not in known or name in options:
             raise Usage
         options[name] = value_of(known[name], word, words)
-    if len(positional) != 3 or "" in positional:
+    values = {name[2:].replace("-", "_"): value for name, value in options.items()}
+    return Words(**places_of(positional, options), **values)  # type: ignore[arg-type]
+
+
+def places_of(positional: list[str], options: Iterable[str]) -> dict[str, object]:
+    """What the positional words name: with --git one or two revisions, the folder and the table; with --tickets the folder and perhaps the
+    table; else both folders and perhaps the table."""
+    revisions: list[str] = []
+    if "--git" in options:
+        revisions, positional = positional[:-2], positional[-2:]
+    if "" in positional + revisions or "--git" in options and len(revisions) not in (1, 2) or any(one.startswith("-") for one in revisions):
         raise Usage
-    return Words(*positional, **{name[2:].replace("-", "_"): value for name, value in options.items()})  # type: ignore[arg-type]
+    if "--git" in options and len(positional) != 2:
+        raise Usage
+    if "--git" in options or "--tickets" in options:
+        positional = positional[:1] + positional
+    if len(positional) == 2 and "--newlinks" not in options:
+        positional.append("")
+    if len(positional) != 3:
+        raise Usage
+    return dict(zip(("old", "new", "links"), positional), revisions=tuple(revisions))
