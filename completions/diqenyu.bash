@@ -25,6 +25,7 @@ _diqenyu() {
         case $only$it in
             --) only=' ' ;;
             --workers | --ttl | --newlinks | --questions | --page | --title | --neighbors | --check | --active) at=$((at + 1)) ;;
+            --fail-on | --questions-new | --expect | --write-expect | --sources | --accept | --json | --sarif | --junit) [[ ${1##*/} == *window ]] && at=$((at + 1)) ;;
             --*) ;;
             *) given+=("${it/#\~/$HOME}") ;;
         esac
@@ -34,6 +35,8 @@ _diqenyu() {
         case ${COMP_WORDS[COMP_CWORD - 1]} in
             --workers | --ttl | --title) return ;;
             --newlinks | --questions | --page | --neighbors | --check | --active) files=1 ;;
+            --questions-new | --expect | --write-expect | --sources | --accept | --json | --sarif | --junit) [[ ${1##*/} == *window ]] && files=1 ;;
+            --fail-on) return ;;
         esac
     fi
     case ${1##*/} in
@@ -53,8 +56,8 @@ _diqenyu() {
             ;;
         *rollout)
             case ${#given[@]}:${given[0]:-} in
-                0:) words='audit edits rollout' ;;
-                1:audit | [1-3]:edits | [1-4]:rollout) files=1 ;;
+                0:) words='audit edits rollout variants' ;;
+                1:audit | [1-3]:edits | [1-4]:rollout | [1-3]:variants) files=1 ;;
             esac
             ;;
         *doctor)
@@ -69,7 +72,7 @@ _diqenyu() {
             ;;
         *window)
             [ "${#given[@]}" -lt 3 ] && files=1
-            options='--newlinks --questions --page --title'
+            options='--newlinks --questions --page --title --questions-new --expect --write-expect --sources --foreign --all-edges --accept --fail-on --json --sarif --junit --no-lines --finer --tickets --routes --vrf --active --waivers --as-written --keep --git'
             [ "${#given[@]}" = 0 ] && options="$options --help --version"
             ;;
         *view)

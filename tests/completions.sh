@@ -51,7 +51,7 @@ command -v zsh >/dev/null 2>&1 || echo "zsh isn't there: its completions are not
 campus=examples/campus
 offers "ask compare gen read trace" review ""
 offers "compare" ./review c
-offers "audit edits rollout" rollout ""
+offers "audit edits rollout variants" rollout ""
 offers "examples/edits/edits" rollout edits examples/list-entry/old examples/list-entry/links examples/edits/ed
 offers "" rollout edits a b c d
 offers "examples/rollout/steps examples/rollout/steps-leak examples/rollout/steps-loop" rollout rollout examples/rollout/net examples/rollout/links examples/rollout/questions examples/rollout/st
@@ -75,7 +75,11 @@ offers "--all" doctor $campus/old --
 offers "--all --help --version" doctor --
 offers "$campus/links" doctor $campus/old $campus/new $campus/li
 offers "" doctor --all a b c d $campus/li
-offers "--newlinks --page --questions --title" window $campus/old --
+offers "--accept --active --all-edges --as-written --expect --fail-on --finer --foreign --git --json --junit --keep --newlinks --no-lines --page --questions --questions-new --routes --sarif --sources --tickets --title --vrf --waivers --write-expect" window $campus/old --
+offers "--accept --active --all-edges --as-written" window $campus/old --a
+offers "$campus/expected" window --expect $campus/exp
+offers "$campus/links" window --fail-on closes --json out $campus/old $campus/new $campus/li
+offers "" window --fail-on ""
 offers "$campus/questions" window --questions $campus/q
 offers "$campus/links" window --title A $campus/old $campus/new $campus/li
 offers "" window a b c $campus/li
