@@ -24,6 +24,7 @@ sys.path[:0] = [os.path.join(TOP, "tests"), os.path.join(TOP, "windowing")]
 import comparing  # noqa: E402
 import hunks  # noqa: E402
 import jobs  # noqa: E402
+import kinds  # noqa: E402
 import rendering  # noqa: E402
 import rules  # noqa: E402
 from causes import Cause, Causes, Unfaithful, header_of, parts_of  # noqa: E402
@@ -31,6 +32,12 @@ from comparing import found_in  # noqa: E402
 from cubes import union  # noqa: E402
 from lines import OwnPlaces, find_causes  # noqa: E402
 from programs import command_of  # noqa: E402
+
+
+def kind_of(old, new):
+    """The kind of outcomes as the report writes them; which interfaces lie on one lan isn't asked."""
+    return kinds.kind_of(*(kinds.side_of(tuple(text.split(" | "))) for text in (old, new)), {})
+
 
 LAWS = int(os.environ.get("WINDOW_LAWS", "200"))
 
@@ -388,7 +395,7 @@ class Tickets(Scratch):
                 tables = links + [path for path in [os.path.join(here, ticket, "newlinks")] if os.path.exists(path)]
                 causes, report = self.causes(tables, folders=(os.path.join(here, "old"), os.path.join(here, ticket, "new")))
                 told = ["%d %s | %s" % (line.number + 1, line.said(), verdict(causes, line)) for line in causes.lines]
-                answered = causes.of(parts_of(report, lambda old, new: ""))
+                answered = causes.of(parts_of(report, kind_of))
                 groups = {" ".join([part.kind, cause.how, *(str(line + 1) for line in cause.lines)]) for part, cause in answered}
                 with open(os.path.join(here, ticket, "lines"), encoding="utf-8") as stream:
                     self.assertEqual(told + sorted(groups), stream.read().splitlines())

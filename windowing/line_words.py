@@ -27,8 +27,7 @@ def cause_lines(cause: Cause, lines: Sequence[Line], named: set[int]) -> list[st
 
 def line_text(line: Line) -> str:
     """`DIST1.cfg:80 + 45 permit tcp any any`."""
-    said = getattr(line, "said", None)
-    if said:
+    if line.parts:
         # (a line that stands for several parts tells the first ones)
-        return str(said(1))
+        return line.said(1)
     return "%s %s %s" % (line.place, line.sign, line.text) + (" (and alike on %d more)" % len(line.also) if line.also else "")

@@ -100,16 +100,22 @@ def fewest_lines(findings: Sequence[Finding]) -> tuple[int, ...]:
     return ()
 
 
+def rest_without(result: Result, some: Sequence[int]) -> str | None:
+    """What the change without these lines still does; None where there are no lines."""
+    if not some:
+        return None
+    left = [finding for finding in result.findings if stays(finding.cause, frozenset(some))]
+    return "the change still does the rest: %s" % kinds_words(left) if left else "packets don't change"
+
+
 def lines_behind(result: Result) -> list[str]:
     """Which lines are behind all that isn't expected, and what the change without them still does."""
     some = fewest_lines(result.undecided)
     if not some:
         return []
     by_number = {line.number: line for line in result.lines}
-    left = [finding for finding in result.findings if stays(finding.cause, frozenset(some))]
     told = " and ".join(line_text(by_number[number]) for number in some)
-    rest = "the change still does the rest: %s" % kinds_words(left) if left else "packets don't change"
-    return ["All of it comes of %s. Without %s %s." % (told, "it" if len(some) == 1 else "them", rest)]
+    return ["All of it comes of %s. Without %s %s." % (told, "it" if len(some) == 1 else "them", rest_without(result, some))]
 
 
 def verdict_of(result: Result) -> list[str]:
