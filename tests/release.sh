@@ -30,7 +30,7 @@ wants() {
 tree() {
     local name crate part
     mkdir -p "$1/crates"
-    cp -R launch review rollout view doctor window windowing preparing release Makefile README.md HANDLES crates.txt docs man completions examples "$1/"
+    cp -R launch review rollout view doctor window windowing showing preparing release Makefile README.md HANDLES crates.txt docs man completions examples "$1/"
     for crate in $(for name in review rollout view doctor; do ./launch --crates $name; done | sort -u); do
         mkdir "$1/crates/$crate"
         for part in src specs proofs; do

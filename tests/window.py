@@ -130,7 +130,7 @@ class Windows(unittest.TestCase):
         self.doctor_says(["warning %d" % number for number in range(1, 8)])
         status, output, errors = self.window(*CAMPUS, "--questions", "examples/campus/questions", "--no-lines")
         self.assertEqual(status, 1, errors)
-        self.assertIn("standing warnings: 7, as in the old network; all by ./doctor " + " ".join(CAMPUS), output.splitlines())
+        self.assertIn("standing warnings: 7, as in the old network; all by --json", output.splitlines())
 
     def test_limits(self):
         limit = "limit: p2p on Ethernet (2), first links:1: a packet goes to and fro"

@@ -647,8 +647,8 @@ class Telling(unittest.TestCase):
         lines = self.told(("R1 E0", anything, Cause("by", (0,))), ("R2 E0", anything, Cause("any", (1, 2))),
                           ("R3 E0", anything, Cause("all", (1, 2, 3, 4))))
         self.assertIn("3 findings, 1 line without effect", lines)
-        for line in ("    by R1.cfg:7 + line 0", "    each alone does it: R1.cfg:8 + line 1", "    only together: R1.cfg:8 + line 1",
-                     "                   1 more"):
+        for line in ("    by R1.cfg:7 + line 0", "    each alone does it: R1.cfg:8 + line 1", "    only together: R1.cfg:10 + line 3",
+                     "                   R1.cfg:8, R1.cfg:9"):
             self.assertIn(line, lines)
 
 
@@ -707,13 +707,13 @@ class Documents(Windows):
 
     def test_a_warning_has_its_line(self):
         path = self.path("sarif")
-        self.window(*CAMPUS, "--sarif", path)
+        port = R1 + "interface Ethernet7\n"
+        self.window(*self.networks([port, R2], [port + " keepalive 5\n", R2]), "--sarif", path)
         with open(path, encoding="utf-8") as stream:
-            found = list(self.sarif(json.load(stream)))
-        self.assertEqual(found[0]["locations"],
-                         [{"physicalLocation": {"artifactLocation": {"uri": "examples/campus/new/DC1.cfg"}, "region": {"startLine": 17}}}])
-        self.assertEqual((found[0]["level"], found[0]["message"]["text"]),
-                         ("warning", "passed over, only in this folder: description new servers"))
+            found = next(one for one in self.sarif(json.load(stream)) if "keepalive" in one["message"]["text"])
+        place = {"artifactLocation": {"uri": self.path("new/R1.cfg")}, "region": {"startLine": port.count("\n") + 1}}
+        self.assertEqual(found["locations"], [{"physicalLocation": place}])
+        self.assertEqual((found["level"], found["message"]["text"]), ("warning", "passed over, only in this folder: keepalive 5"))
 
     def test_a_question_that_fails_is_a_failure(self):
         path = self.path("junit")

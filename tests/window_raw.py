@@ -239,7 +239,7 @@ class Folders(Runs):
         status, output, errors = self.window("old", "new", "links", "--waivers", "waivers", "--page", "page.html")
         self.assertEqual((status, errors), (1, []))
         self.assertEqual(output[1], "waived: R1 ip nat inside source list ..: PAT for users, left out since March")
-        self.assertTrue("(waived: R1 ip nat inside source list ..: PAT for users, left out since March)</h1>" in self.read("page.html"))
+        self.assertIn('<ul class="told"><li>waived: R1 ip nat inside source list ..: PAT for users, left out since March</li></ul>', self.read("page.html"))
         self.write("waivers", "R1 deny ip any any : never\n")
         status, _, errors = self.window("old", "new", "links", "--waivers", "waivers")
         self.assertEqual((status, errors), (3, ["refused waivers line 1 NotThere R1 deny ip any any"]))

@@ -448,10 +448,6 @@ def bring_sides(words: Words, sides: tuple[Side, Side], names: dict[str, str]) -
     brought.told += marks.marks_told([brought.words.old, brought.words.new])
     if not words.links:
         find_tables(brought, os.path.dirname(old.prepared))
-    if brought.told:
-        # (a page has no other place for what its reader has to know)
-        title = words.title or "What the change does to packets"
-        brought.words = replace(brought.words, title="%s (%s)" % (title, "; ".join(brought.told)))
     return brought
 
 

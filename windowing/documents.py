@@ -9,13 +9,13 @@ from typing import Sequence
 from xml.etree import ElementTree
 
 from cubes import FIELDS, Headers, Values
-from field_words import address_texts, header_text, packet
+from field_words import address_texts, example, header_text, packet
 from findings import FOREIGN, ITS, OWN
 from kinds import outcome_of
 from line_words import line_text
 from model import Cause, Edge, Expected, Finding, Group, Idle, Line, Missing, Question, Result
-from telling import example_of, headers_lines, question_text
-from verdict import fewest_lines, verdict_of, word_of
+from telling import example_of, headers_lines, kind_words, question_text
+from verdict import fewest_lines, rest_without, sentence_of, word_of
 
 SCHEMA, VERSION = "diqenyu-window", 1
 
@@ -66,16 +66,36 @@ def finding_document(finding: Finding, result: Result) -> dict[str, object]:
     place, header = example_of(finding, result.sources)
     words = headers_lines([(word, finding.headers(word)) for word in (ITS, OWN, FOREIGN)], finding.ingresses, result.sources)
     return {
-        "number": finding.number, "kind": finding.kind, "plausible": finding.plausible, "expected": finding.expected,
-        "expectations": list(finding.expectations), "ingresses": [place_of(place) for place in finding.ingresses], "words": words,
-        "cause": cause_document(finding.cause), "groups": [group_document(group) for group in finding.groups],
-        "example": place_of(place, header=header_text(header), words=packet(header), note=finding.note or None)}
+        "number": finding.number, "kind": finding.kind, "becomes": kind_words(finding), "plausible": finding.plausible,
+        "expected": finding.expected, "expectations": list(finding.expectations),
+        "ingresses": [place_of(place) for place in finding.ingresses], "words": words,
+        "unexpected words": unexpected_words(finding, result), "cause": cause_document(finding.cause),
+        "groups": [group_document(group) for group in finding.groups],
+        "example": example_document(place, header, finding.note)}
 
 
-def missing_document(number: int, missing: Missing) -> dict[str, object]:
+def example_document(place: str, header: tuple[int, ...], note: str = "") -> dict[str, object]:
+    """A packet, where it comes in, and what is to be known of it."""
+    return place_of(place, header=header_text(header), words=packet(header), note=note or None)
+
+
+def unexpected_words(finding: Finding, result: Result) -> list[str]:
+    """Which packets of a finding aren't expected, where that is a part of them."""
+    if finding.expected != "part":
+        return []
+    return headers_lines([(word, finding.headers(word, True)) for word in (ITS, OWN)], finding.ingresses, result.sources)
+
+
+def missing_document(number: int, missing: Missing, result: Result) -> dict[str, object]:
     """What was expected and doesn't happen."""
+    words, shown = [], None
+    if missing.ingresses:
+        place = missing.ingresses[0]
+        words = headers_lines([(missing.sources, missing.headers)], missing.ingresses, result.sources)
+        shown = example_document(place, example(missing.headers & Headers.where(source=result.sources[place])))
     return {"number": number, "line": missing.line, "kind": missing.kind, "why": missing.why, "sources": missing.sources,
-            "ingresses": [place_of(place) for place in missing.ingresses], "headers": boxes_document(missing.headers)}
+            "ingresses": [place_of(place) for place in missing.ingresses], "headers": boxes_document(missing.headers), "words": words,
+            "example": shown}
 
 
 def edge_document(edge: Edge) -> dict[str, object]:
@@ -96,7 +116,7 @@ def line_document(line: Line, result: Result) -> dict[str, object]:
     beside = next((one.reason for one in result.beside if one.line == line.number), None)
     return {
         "number": line.number, "path": line.path or None, "place": line.place, "sign": line.sign, "text": line.text, "other": line.other or None,
-        "kind": line.kind, "device": line.device, "also": list(line.also),
+        "kind": line.kind, "device": line.device, "also": list(line.also), "words": line_text(line),
         "idle": None if why is None else {"reason": why.reason, "backup": why.backup, "quiet": why.quiet}, "beside": beside,
         "holds back": line.number in result.holds_back, "note": result.notes.get(line.number)}
 
@@ -116,20 +136,20 @@ def expected_document(expected: Expected | None) -> dict[str, object] | None:
 
 def document_of(result: Result, status: int) -> dict[str, object]:
     """All of it."""
-    warnings = result.warnings
+    warnings, behind = result.warnings, fewest_lines(result.undecided)
     return {
         "schema": SCHEMA, "version": VERSION, "title": result.title, "status": status,
-        "verdict": {"word": word_of(result), "words": verdict_of(result)[0], "lines": list(fewest_lines(result.undecided))},
+        "told": result.prepared, "prepared": result.last,
+        "verdict": {"word": word_of(result), "words": sentence_of(result), "lines": list(behind), "rest": rest_without(result, behind)},
         "old": result.old, "new": result.new, "links": list(result.tables), "identical": result.identical is not None,
         "ingresses": [place_of(place, rows=rows) for place, rows in result.rows.items()],
         "sources": sources_document(result.sources), "expected": expected_document(result.expected),
-        "missing": [missing_document(number, missing) for number, missing in enumerate(result.missing, 1)],
+        "missing": [missing_document(number, missing, result) for number, missing in enumerate(result.missing, 1)],
         "findings": [finding_document(finding, result) for finding in [*result.findings, *result.foreign]],
         "warnings": {"new": warnings.new, "both": warnings.both, "old": warnings.gone, "accepted": warnings.accepted},
         "edges": [edge_document(edge) for edge in result.edges], "edges known": result.edges_known,
         "questions": None if result.questions is None else [question_document(question) for question in result.questions],
-        "lines": [line_document(line, result) for line in result.lines], "lines untold": result.lines_untold or None,
-        "prepared": [*result.prepared, *result.last]}
+        "lines": [line_document(line, result) for line in result.lines], "lines untold": result.lines_untold or None}
 
 
 def json_of(result: Result, status: int) -> bytes:

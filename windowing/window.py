@@ -9,6 +9,7 @@ import traceback
 import answers
 import documents
 import expecting
+import paging
 import telling
 from bringing import bring
 from causes import Unfaithful
@@ -92,14 +93,6 @@ class Window:
             result.holds_back, result.notes = causes.holds_back, causes.notes
         return result
 
-    def draw(self):
-        """The page, made beside the place where it is to stand."""
-        words = self.words
-        title = ["--title", words.title] if words.title else []
-        run("view", ["--html"] + title + [self.path("report"), self.deciding.tables()[-1]], self.path("page"))
-        with open(self.path("page"), "rb") as stream:
-            return stream.read()
-
 
 def write_whole(path, content):
     """Writes a file whole or not at all."""
@@ -132,24 +125,26 @@ def tell(lines):
         raise Stop(6, b"cannot write\n") from None
 
 
-def look(words):
-    """Does what the words say; gives the status."""
+def look(words, given):
+    """Does what the words say; gives the status. `given` are the words as they were given."""
     fail_on = causes_in(words.fail_on)
+    if words.page:
+        paging.check()
     with tempfile.TemporaryDirectory(prefix="diqenyu-window-") as folder:
         brought = bring(words, folder)
+        rests = paging.Paging(words, brought, given) if words.page else None
         window = Window(brought.words, folder, brought.origins)
         try:
             warnings, limits = window.examine()
             result = window.decide(brought.warnings + warnings + limits, warnings)
             add_warnings(result, brought.warnings, window.deciding)
-            page = window.draw() if words.page else None
         except Stop as stop:
             raise brought.own(stop) from None
+        result = called_by_engineers(result, words, brought)
+        status = status_of(result, fail_on)
+        files = [(words.page, rests.page(result, status, window.deciding, limits))] if rests else []
         if words.keep:
             brought.keep(words.keep)
-    result = called_by_engineers(result, words, brought)
-    status = status_of(result, fail_on)
-    files = [(words.page, page)] if words.page else []
     files += [(path, make(result, status)) for path, make in ((words.json, documents.json_of), (words.sarif, documents.sarif_of),
                                                               (words.junit, documents.junit_of)) if path]
     if words.write_expect:
@@ -194,7 +189,7 @@ def answer(words):
     if words == ["--version"]:
         tell([VERSION])
         return 0
-    return look(read_words(words))
+    return look(read_words(words), words)
 
 
 def main():

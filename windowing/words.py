@@ -16,7 +16,7 @@ class Option(NamedTuple):
 OPTIONS = (
     Option("--newlinks", "FILE", "how the new network is wired, where the change is one of cables"),
     Option("--questions", "FILE", "what must be so before the change and after it"),
-    Option("--page", "FILE", "the report as a page for a browser"),
+    Option("--page", "FILE", "the page on which the change is decided, for a browser"),
     Option("--title", "TEXT", "how the change is called"),
     Option("--questions-new", "FILE", "what must be so after the change alone"),
     Option("--expect", "FILE", "what the change is to do; all else is told as unexpected"),
