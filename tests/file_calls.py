@@ -17,6 +17,10 @@ import tempfile
 from typing import NamedTuple
 
 TOP = os.path.dirname(os.path.dirname(os.path.abspath(__file__)))
+sys.path.insert(0, TOP)
+
+from launching import programs  # noqa: E402
+
 OLD, NEW, LINKS = "examples/campus/old", "examples/campus/new", "examples/campus/links"
 REPORT = "examples/campus/expected"
 # What every program opens as it starts.
@@ -62,7 +66,7 @@ CASES = [
 def program(name: str) -> str:
     """The built program of this name, or the one that the environment names."""
     given = os.environ.get("DIQENYU_" + name.upper())
-    return os.path.abspath(given) if given else os.path.join(TOP, "crates", name + "_cli", "out", name + "_cli")
+    return os.path.abspath(given) if given else programs.find(name).path
 
 
 def calls_of(trace: str) -> list[tuple[str, str, int]]:

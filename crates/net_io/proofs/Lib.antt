@@ -1,3 +1,4 @@
+pub mod EntryNames
 pub mod Listings
 pub mod Names
 pub mod Stored

@@ -6,12 +6,16 @@
 //!
 //! [`MemFiles`] and [`MemSink`] stand in memory and tell all that they hold. [`RealFiles`] and
 //! [`RealSink`] stand over the system, and tell nothing: that the system reads and writes as it should
-//! is trusted. So a `RealFiles` that always answered `Absent`, or that each folder and file is empty,
-//! would meet its contract. Only tests speak against that.
+//! is trusted. What `RealFiles` gives of a file is what a read of some open file gave (`given`), and it
+//! can only read. But one that always answered `Absent`, or that each folder is empty, or that read
+//! another file, would meet its contract. Only tests speak against that.
 #![tactic(auto)]
 
+mod entry_names;
 mod mem_files;
 mod mem_sink;
+mod open_file;
+mod read_only;
 mod reading;
 mod real_files;
 mod real_sink;

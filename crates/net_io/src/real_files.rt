@@ -2,15 +2,18 @@
 
 ghost use Rattle.std.specs.Prelude.{◌≡◌, ◌≤◌, IfOk, None, length};
 ghost use Rattle.std.specs.IoError.{error_kind};
-ghost use Rattle.net_io.specs.Faults.{Rose, IsLast};
-ghost use Rattle.net_io.specs.RealFiles.{fail_of};
+ghost use Rattle.net_io.specs.Faults.{Rose, IsLast, HasCause, MarksLast};
+ghost use Rattle.net_io.specs.RealFiles.{fail_of, GivenByRead, IsOpenAt};
 ghost use Rattle.net_io.specs.declared.reading.FileFail.TheVariants as file;
 
+use crate::entry_names::names_of;
+use crate::open_file::{LastRead, OpenFile};
+use crate::read_only::ReadOnlySystem;
 use crate::{FileFail, Files};
 use std::alloc::Global;
-use std::io::{ErrorKind, Read, Seek, SeekFrom};
+use std::io::ErrorKind;
 use std::marker::Model;
-use std::{fs, io, rt};
+use std::{io, rt};
 
 /// The files of the system. They tell nothing of what they hold.
 ///
@@ -18,8 +21,8 @@ use std::{fs, io, rt};
 /// want of memory, and so is a listed name that isn't UTF-8.
 #[derive(Drop)]
 pub struct RealFiles<R: rt::Files> {
-    rt: R,
-    open: Option<OpenFile<R::File>>,
+    system: ReadOnlySystem<R>,
+    last_read: LastRead<R::File>,
     faults: u64,
     // The path of the call that failed last, where there was memory for it.
     last: Option<String>,
@@ -35,68 +38,45 @@ impl<R: rt::Files> Model for RealFiles<R> {
     ghost view = { λ f. record { count = f.faults; last = option_map string_bytes f.last } };
 }
 
-// The file that was read last, and the place that a read of it comes to.
-#[derive(Drop)]
-struct OpenFile<F> {
-    path: String,
-    file: F,
-    at: u64,
-}
-
 impl<R: rt::Files + AllocGlobal + Clone + Drop> RealFiles<R> {
     /// The files that this runtime reaches, with no fault so far.
     pub fn new(rt: R) -> RealFiles<R>
         ensures { result ≡ record { count = 0; last = None } }
     {
         RealFiles {
-            rt,
-            open: None,
+            system: ReadOnlySystem::new(rt),
+            last_read: LastRead::none(),
             faults: 0,
             last: None,
         }
     }
 
     fn names(&self, alloc: Global, path: &str) -> io::Result<Vec<String>> {
-        let mut names = Vec::new(alloc);
-        for entry in fs::read_dir(&self.rt, path)? {
-            let entry = entry?;
-            names.push(entry.file_name().to_string(alloc)?)?;
-        }
-        Ok(names)
+        names_of(alloc, self.system.entries(path)?)
     }
 
-    // The file goes on being open, so that the next piece is read without a search for the path.
     fn piece(&mut self, path: &str, at: u64, room: &mut [u8]) -> io::Result<usize>
         ensures bound { IfOk result (λ n. n ≤ length room.old) }
+        ensures given { IfOk result (λ n. GivenByRead R.File.Read.remaining n room.new) }
         ensures faults { self.new ≡ self.old }
     {
         let mut open = self.open_at(path, at)?;
-        let count = open.file.read(room)?;
+        let count = open.piece(room)?;
         if count > 0 {
-            open.at = at.saturating_add(count as u64);
-            self.open = Some(open);
+            self.last_read.keep(open);
         }
         Ok(count)
     }
 
     fn open_at(&mut self, path: &str, at: u64) -> io::Result<OpenFile<R::File>>
-        ensures { self.new ≡ self.old }
+        ensures place { IfOk result (λ last. IsOpenAt path.now at last) }
+        ensures faults { self.new ≡ self.old }
     {
-        if let Some(open) = self.open.take() {
-            if at > 0 && open.at == at && open.path.as_str() == path {
-                return Ok(open);
-            }
+        if let Some(open) = self.last_read.take(path, at) {
+            return Ok(open);
         }
-        let path_kept = path.to_string(self.rt.alloc())?;
-        let mut file = fs::open(&self.rt, path)?;
-        if at > 0 {
-            file.seek(SeekFrom::Start(at))?;
-        }
-        Ok(OpenFile {
-            path: path_kept,
-            file,
-            at,
-        })
+        let path_kept = path.to_string(self.system.alloc())?;
+        OpenFile::opened(path_kept, self.system.open(path)?, at)
     }
 
     // The cause that an error of a call on this path is; a fault is counted.
@@ -111,7 +91,7 @@ impl<R: rt::Files + AllocGlobal + Clone + Drop> RealFiles<R> {
             ErrorKind::OutOfMemory => FileFail::NoMemory,
             _ => {
                 self.faults = self.faults.saturating_add(1);
-                self.last = path.to_string(self.rt.alloc()).ok();
+                self.last = path.to_string(self.system.alloc()).ok();
                 FileFail::Failed
             }
         }
@@ -132,7 +112,12 @@ impl<R: rt::Files + AllocGlobal + Clone + Drop> Files for RealFiles<R> {
         }
     }
 
-    fn read(&mut self, path: &str, at: u64, room: &mut [u8]) -> Result<usize, FileFail> {
+    fn read(&mut self, path: &str, at: u64, room: &mut [u8]) -> Result<usize, FileFail>
+        ensures bound { IfOk result (λ n. n ≤ length room.old) }
+        ensures given { IfOk result (λ n. GivenByRead R.File.Read.remaining n room.new) }
+        ensures cause { HasCause self.old.count self.new.count result }
+        ensures last { MarksLast path.now self.old.last self.new.last result }
+    {
         match self.piece(path, at, room) {
             Ok(count) => Ok(count),
             Err(error) => Err(self.cause(path, &error)),
