@@ -3,9 +3,9 @@ from __future__ import annotations
 
 import hashlib
 import os
-import subprocess
 from typing import Iterable, Mapping
 
+from launching.programs import find
 from showing.page import File
 from showing.texts import counted
 
@@ -45,22 +45,6 @@ def file_of(what: str, called: str, path: str) -> File:
     return File(what, called, "%s," % counted(len(content), "byte", "bytes"), sum_of(content))
 
 
-def built(top: str, name: str) -> str | None:
-    """Where a proved program stands: what the environment names, that of a release, or the one that is built; None where nobody knows."""
-    given = os.environ.get("DIQENYU_" + name.upper()) or os.path.join(top, "programs", name)
-    if os.path.isfile(given):
-        return given
-    done = subprocess.run([os.path.join(top, "launch"), "--built", name], stdin=subprocess.DEVNULL, stdout=subprocess.PIPE,
-                          stderr=subprocess.DEVNULL)
-    path = done.stdout.decode("utf-8", "surrogateescape").strip()
-    return path if done.returncode == 0 and os.path.isfile(path) else None
-
-
-def programs_of(top: str, names: Iterable[str]) -> list[File]:
-    """The proved programs by the sums of their files, which a release names in PROGRAMS."""
-    found = []
-    for name in names:
-        path = built(top, name)
-        if path is not None:
-            found.append(file_of(name, "", path))
-    return found
+def programs_of(names: Iterable[str]) -> list[File]:
+    """The programs of the run by the sums of their files, which a release names in PROGRAMS, and whether they are proved."""
+    return [file_of(program.name, program.told() + ",", program.path) for program in map(find, names)]

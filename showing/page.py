@@ -1,22 +1,17 @@
 """The page on which a change is decided: what it needs, out of the document of `window`, for the template."""
 from __future__ import annotations
 
-import base64
-import hashlib
 import os
 import re
-import sys
 from collections import Counter
 from dataclasses import dataclass, field
 from typing import Any, Iterable, Mapping, NamedTuple, Sequence
 
 from showing.hops import Table, links_of, table_of
-from showing.picture import Picture, Walk, Wiring, picture_of
-from showing.texts import all_shown, counted, full_place, short, short_place, shown
-
-# Where Debian puts its packages; the program runs without them.
-PACKAGES = "/usr/lib/python3/dist-packages"
-TEMPLATES = os.path.join(os.path.dirname(os.path.abspath(__file__)), "templates")
+from showing.outcomes import side_words
+from showing.picture import Picture, Walk, Wiring, ends_of as ends_in, picture_of
+from showing.rendering import part, rendered, ways_style
+from showing.texts import all_shown, full_place, short_place, shown
 
 # Of so many findings of each section all is told; of each at most so many ends and lines. What is left out is counted.
 MOST_FINDINGS, MOST_ENDS, MOST_CAUSES, MOST_INGRESSES = 300, 6, 12, 60
@@ -51,10 +46,6 @@ class Beside:
     limits: list[str] = field(default_factory=list)
     wiring: Wiring = Wiring([], [])
     traces: Mapping[int, tuple[list[str], list[str]]] = field(default_factory=dict)
-
-
-class NoJinja(Exception):
-    """Debian's package python3-jinja2 isn't there."""
 
 
 class Mark(NamedTuple):
@@ -109,23 +100,10 @@ def flow_of(words: str) -> Flow:
     return Flow(found[1], found[2], found[3], words) if found else Flow("", "", "", words)
 
 
-def outcome_words(outcome: Mapping[str, Any]) -> str:
-    """An outcome of the document in words."""
-    place = "%s %s" % (outcome.get("device"), short(str(outcome.get("interface"))))
-    words = {"drop": "dropped", "expired": "goes round", "local": "%s itself" % place, "exit": "out of %s" % place}[outcome["end"]]
-    replaced = ["%s %s" % (name, outcome[name]) for name in ("src", "sport", "dst", "dport") if name in outcome]
-    return words + (" with %s" % " ".join(replaced) if replaced else "")
-
-
 def ends_of(finding: Mapping[str, Any]) -> list[tuple[str, str]]:
     """The pairs of ends of a finding's groups, today's and the planned one, each once."""
-    pairs = dict.fromkeys((sides_words(group["old"]), sides_words(group["new"])) for group in finding["groups"])
+    pairs = dict.fromkeys((side_words(group["old"]), side_words(group["new"])) for group in finding["groups"])
     return [(shown(old), shown(new)) for old, new in pairs]
-
-
-def sides_words(outcomes: Sequence[Mapping[str, Any]]) -> str:
-    """The outcomes of one side in words."""
-    return " or ".join(map(outcome_words, outcomes))
 
 
 def other_end(kind: str, ends: Sequence[tuple[str, str]]) -> str:
@@ -261,16 +239,7 @@ class Page:
 
     def walks(self) -> list[Walk]:
         """The ways of the findings that were traced."""
-        found = []
-        for number, table in self.tables.items():
-            ends = []
-            for side, hops in (("old", table.today), ("new", table.planned)):
-                for hop in hops:
-                    if hop.lost or hop.arrives:
-                        round_again = any(text.startswith("\u21bb") for text in hop.ends)
-                        ends.append((side, hop.device, "\u21bb" if round_again else "\u2715" if hop.lost else "\u25cf"))
-            found.append(Walk(number, links_of(table.today), links_of(table.planned), list(dict.fromkeys(ends))))
-        return found
+        return [Walk(number, links_of(table.today), links_of(table.planned), ends_in(table)) for number, table in self.tables.items()]
 
     def picture(self) -> Picture:
         """The network with the ways."""
@@ -327,47 +296,8 @@ class Page:
 # ---- rendering
 
 
-def with_jinja() -> Any:
-    """Debian's Jinja2. NoJinja where it isn't there."""
-    if PACKAGES not in sys.path:
-        sys.path.append(PACKAGES)
-    try:
-        import jinja2
-    except ModuleNotFoundError:
-        raise NoJinja from None
-    return jinja2
-
-
-def part(name: str) -> str:
-    """The style or the script."""
-    with open(os.path.join(TEMPLATES, name), encoding="utf-8") as stream:
-        return stream.read()
-
-
-def sum_of(text: str) -> str:
-    """What a policy for contents names a style or a script by."""
-    return "'sha256-%s'" % base64.b64encode(hashlib.sha256(text.encode("utf-8")).digest()).decode()
-
-
-def ways_style(picture: Picture) -> str:
-    """Without a script: the way of the finding that is open."""
-    rules = ["html:not(.js) body:has(#f%d[open]) #w%d { display: inline; }" % (way.finding, way.finding) for way in picture.ways]
-    return "\n" + "\n".join(rules) + "\n"
-
-
 def page_of(document: Mapping[str, Any], beside: Beside) -> bytes:
-    """The page of a document of `window`. It asks for nothing: style and script are in it, and its policy forbids all else. NoJinja where
-    Jinja2 isn't there."""
-    jinja2 = with_jinja()
-    from markupsafe import Markup
-
-    environment = jinja2.Environment(autoescape=True, undefined=jinja2.StrictUndefined, trim_blocks=True, lstrip_blocks=True,
-                                     loader=jinja2.FileSystemLoader(TEMPLATES))
-    environment.globals.update(short=short, short_place=short_place, full_place=full_place, counted=counted)
+    """The page of a document of `window`. NoJinja where Jinja2 isn't there."""
     context = Page(document, beside).context()
-    styles, script = [part("style.css"), ways_style(context["picture"])], part("script.js")
-    policy = "default-src 'none'; img-src data:; base-uri 'none'; form-action 'none'; style-src %s; script-src %s" % (
-        " ".join(map(sum_of, styles)), sum_of(script))
-    # (the only texts that aren't escaped, and none of them has anything of the document)
-    own = {"styles": [Markup(style) for style in styles], "script": Markup(script)}
-    return environment.get_template("decision.html.j2").render(context, policy=policy, **own).encode("utf-8")
+    styles = [part("style.css"), ways_style("f", [way.finding for way in context["picture"].ways])]
+    return rendered("decision.html.j2", context, styles, part("script.js"))

@@ -7,6 +7,8 @@ from collections import defaultdict
 from dataclasses import dataclass, field
 from typing import Iterable, NamedTuple, Sequence
 
+from showing.hops import Table
+
 # Up to so many devices all are drawn; of more those on a way, changed or with a finding; and so many at most.
 ALL_DEVICES, MOST_DEVICES = 60, 160
 # Seconds that the layout may take.
@@ -218,6 +220,17 @@ class Drawing:
                 right = 1 if side == "new" else -1
                 marks.append((side, sign, place[0] + right * (place[2] / 2), place[1] + place[3] / 2))
         return Way(walk.finding, [(side, path) for side, path in paths if path], marks)
+
+
+def ends_of(table: Table) -> list[tuple[str, str, str]]:
+    """Where the ways of a table of hops end, each side's devices with a sign: a packet goes round, is dropped, or arrives."""
+    found = []
+    for side, hops in (("old", table.today), ("new", table.planned)):
+        for hop in hops:
+            if hop.lost or hop.arrives:
+                round_again = any(text.startswith("\u21bb") for text in hop.ends)
+                found.append((side, hop.device, "\u21bb" if round_again else "\u2715" if hop.lost else "\u25cf"))
+    return list(dict.fromkeys(found))
 
 
 def picture_of(wiring: Wiring, changed: set[str], ingresses: set[str], found: set[str], walks: Sequence[Walk]) -> Picture:

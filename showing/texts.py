@@ -1,6 +1,7 @@
 """Texts of a document as people read them."""
 from __future__ import annotations
 
+import os
 import re
 import unicodedata
 from typing import Any
@@ -55,3 +56,8 @@ def full_place(place: dict[str, Any]) -> str:
 def counted(number: int, one: str, several: str) -> str:
     """A number with its noun."""
     return "%s %s" % (format(number, ","), one if number == 1 else several)
+
+
+def bytes_text(text: str) -> str:
+    """A word of the command line as a document has texts: the character U+00XX for the byte XX."""
+    return os.fsencode(text).decode("latin-1")

@@ -6,7 +6,7 @@ usage: view_answers.py [COUNT] [SEED]      by default 100 pairs of answers
 The words of questions have quotes, backslashes, tags, tabs and bytes that are no ASCII. Each pair is shown as text, as JSON, as a table and as
 JUnit's XML, of both files and of one; the document is compared field by field, and validated by docs/answers-schema.json where
 python3-jsonschema is installed. One line of each pair is also changed, and has to be refused with that line. The last line is
-'N passed, M failed'. VIEW in the environment is the program that is run in place of `view`.
+'N passed, M failed'. DIQENYU_VIEW names another program than that of the launcher.
 """
 import csv
 import io
@@ -20,10 +20,18 @@ import sys
 import tempfile
 import xml.etree.ElementTree
 
-import rules
-
+sys.dont_write_bytecode = True
 TOP = pathlib.Path(__file__).resolve().parent.parent
-VIEW = os.environ.get('VIEW', str(TOP / 'view'))
+sys.path[:0] = [str(TOP), str(TOP / 'tests')]
+
+import rules  # noqa: E402
+from showing.texts import shown  # noqa: E402
+from window_page import Reader, rendering  # noqa: E402
+
+VIEW = os.environ.get('DIQENYU_VIEW', str(TOP / 'view'))
+PAGES = str(TOP / 'view')
+# Of so many pairs the page is tried, where Jinja2 is there.
+PAGED = 5
 WORDS = [b'R1', b'E0', b'to', b'Gi0/0/1', b'"quoted"', b'back\\slash', b'<b>bold</b>', b"o'clock", b'&amp;', b'\xc3\xa9\xff', b']]>', b'x' * 64,
          b'\\u0041', b'a,b', b'\x01', b'\x00', b'{}', b'$(id)', b'-->', b'%s', b'\x7f', b'!', b'</testcase>', b'\x0b\x0c']
 BLANKS = [b' ', b'  ', b'\t', b'\r', b' \t ']
@@ -32,11 +40,19 @@ try:
     VALIDATOR = jsonschema.Draft7Validator(json.loads((TOP / 'docs' / 'answers-schema.json').read_text()))
 except ImportError:
     VALIDATOR = None
+try:
+    rendering.with_jinja()
+    JINJA = True
+except rendering.NoJinja:
+    JINJA = False
+# Elements of the page; any other is one of a file.
+ELEMENTS = set('html head meta title link style body header p b span div h1 ul li a main section h2 small table thead tbody tr th td code details summary '
+               'footer dl dt dd'.split())
 
 
 def run(*words):
-    """What the program writes of these words: its status, output and error output."""
-    done = subprocess.run([VIEW, *words], capture_output=True, check=False)
+    """What the program writes of these words: its status, output and error output. Tables, test cases and pages are rendered by another one."""
+    done = subprocess.run([PAGES if {'--csv', '--junit', '--html'} & set(words) else VIEW, *words], capture_output=True, check=False)
     return done.returncode, done.stdout, done.stderr
 
 
@@ -61,7 +77,8 @@ def packet(rng):
     if rng.randrange(2):
         return None
     ports = [0, 22, 53, 80, 443, 512, 768, 2048, 2816, 65535, rng.randrange(65536)]
-    return {'dst': rng.choice([0, 0xFFFFFFFF, rng.randrange(1 << 32)]), 'src': rng.randrange(1 << 32), 'proto': rng.choice([0, 1, 6, 17, 47, rng.randrange(256)]),
+    return {'dst': rng.choice([0, 0xFFFFFFFF, rng.randrange(1 << 32)]), 'src': rng.randrange(1 << 32),
+            'proto': rng.choice([0, 1, 6, 17, 47, rng.randrange(256)]),
             'dport': rng.choice(ports), 'sport': rng.choice(ports), 'flags': rng.choice([0, 2, 18, 255, rng.randrange(256)])}
 
 
@@ -200,7 +217,7 @@ def read_cases(text):
     return cases, int(suite.get('tests')), int(suite.get('failures'))
 
 
-def judge_view(rows, compared, paths):
+def judge_view(rows, compared, paths, paged):
     """What is wrong of the views of these files; nothing where all is right."""
     status, out, err = run('--answers', *paths)
     if status != 0 or err or out != text_of(rows, compared):
@@ -218,10 +235,24 @@ def judge_view(rows, compared, paths):
     failing = sum(row[2] is not None for row in rows)
     if status != 0 or err or not all(byte == 10 or 32 <= byte <= 126 for byte in out) or read_cases(out) != (cases_of(rows), len(rows), failing):
         return f'junit: status {status}'
+    return judge_page(rows, compared, paths) if paged else ''
+
+
+def judge_page(rows, compared, paths):
+    """What is wrong of the page: it counts each group, has each question as it is, and no element of a file."""
     status, out, err = run('--answers', '--html', *paths)
-    if status != 0 or err or not out.startswith(b'<!doctype html>\n') or re.search(rb'<(?!/?(?:html|head|meta|title|style|body|main|h1|h2|section|p|ul|li)[ >]|!doctype)', out):
+    if status != 0 or err:
         return f'html: status {status}'
-    return ''
+    reader = Reader(out.decode())
+    if {tag for tag, _ in reader.elements} - ELEMENTS:
+        return 'html: elements of a file'
+    text = reader.text()
+    missing = [asked[1] for asked, *_ in rows if ' '.join(shown(asked[1].decode('latin-1')).split()) not in text]
+    if missing:
+        return f'html: without {missing[0]!r}'
+    chips = [' '.join(re.sub('<[^>]*>', ' ', chip).split()).split(' ', 1)[1] for chip in re.findall(r'<li><a class="chip[^>]*>(.*?)</a>', out.decode())]
+    wanted = [f'{sum(row[3] == one for row in rows)} {one}' for one in order(compared)]
+    return '' if chips == [chip for chip in wanted if not chip.startswith('0 ')] else f'html: counts {chips}'
 
 
 def changed(rng, text):
@@ -240,7 +271,7 @@ def changed(rng, text):
     return '\n'.join(lines), at + 1
 
 
-def judge(rng, folder):
+def judge(rng, folder, paged):
     """What is wrong of one pair of answers; nothing where all is right."""
     text, asked = questions(rng)
     before, after = [packet(rng) for _ in asked], [packet(rng) for _ in asked]
@@ -250,7 +281,7 @@ def judge(rng, folder):
     (folder / 'after').write_text(written(after))
     both = [(one, [old], new, group([old], new)) for one, old, new in zip(asked, before, after)]
     alone = [(one, [], new, group([], new)) for one, new in zip(asked, after)]
-    wrong = judge_view(both, True, paths) or judge_view(alone, False, [paths[0], paths[2]])
+    wrong = judge_view(both, True, paths, paged) or judge_view(alone, False, [paths[0], paths[2]], paged)
     if wrong:
         return wrong
     other, line = changed(rng, written(after))
@@ -272,7 +303,7 @@ def main():
     failed = 0
     with tempfile.TemporaryDirectory() as folder:
         for number in range(1, count + 1):
-            wrong = judge(rng, pathlib.Path(folder))
+            wrong = judge(rng, pathlib.Path(folder), JINJA and number <= PAGED)
             if wrong:
                 failed += 1
                 print(f'FAILED pair {number}: {wrong}')

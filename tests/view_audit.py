@@ -5,11 +5,14 @@ usage: view_audit.py [COUNT] [SEED]      by default 100 folders
 
 Each folder has random lists (random_lists.py), and `rollout audit` writes its findings. The line of an entry is found here by the lines of
 the files, apart from the program. Where python3-jsonschema is installed, each document is validated by docs/audit-schema.json. Each audit is
-also changed in one place, and has to be refused with that line. The last line is 'N passed, M failed'.
+also changed in one place, and has to be refused with that line. DIQENYU_VIEW and DIQENYU_ROLLOUT name other programs than those of the
+launchers. The last line is 'N passed, M failed'.
 """
 import csv
+import html
 import io
 import json
+import os
 import pathlib
 import random
 import re
@@ -18,13 +21,26 @@ import sys
 import tempfile
 
 TOP = pathlib.Path(__file__).resolve().parent.parent
-VIEW = str(TOP / 'view')
-ROLLOUT = str(TOP / 'rollout')
+VIEW = os.environ.get('DIQENYU_VIEW', str(TOP / 'view'))
+PAGES = str(TOP / 'view')
+ROLLOUT = os.environ.get('DIQENYU_ROLLOUT', str(TOP / 'rollout'))
+# Of so many folders the page is tried, where Jinja2 is there.
+PAGED = 5
 try:
     import jsonschema
     VALIDATOR = jsonschema.Draft7Validator(json.loads((TOP / 'docs' / 'audit-schema.json').read_text()))
 except ImportError:
     VALIDATOR = None
+sys.path.insert(0, str(TOP))
+sys.dont_write_bytecode = True
+
+from showing import rendering  # noqa: E402
+
+try:
+    rendering.with_jinja()
+    JINJA = True
+except rendering.NoJinja:
+    JINJA = False
 
 
 def run(*words):
@@ -155,7 +171,24 @@ def changed(rng, text):
     return '\n'.join(lines).encode(), at + 1
 
 
-def judge(rng, folder, seed):
+def judge_page(wanted, rows, audit, net):
+    """What is wrong of the page: its counts, and each finding with its place, its line and what takes its packets."""
+    status, out, err = run(PAGES, '--audit', '--html', *rows, str(audit), str(net))
+    if status != 0 or err:
+        return f'html: status {status}'
+    page = out.decode()
+    chips = [' '.join(re.sub('<[^>]*>', ' ', chip).split()) for chip in re.findall(r'<a class="chip[^>]*>(.*?)</a>', page)]
+    closing = 'closing denial' if wanted['closing'] == 1 else 'closing denials'
+    counts = [f"{wanted[name]} {word}" for name, word in (('dead', 'dead'), ('redundant', 'redundant'), ('closing', closing)) if wanted[name]]
+    if chips != counts:
+        return f'html: counts {chips}, and not {counts}'
+    entries = [' '.join(html.unescape(re.sub('<[^>]*>', ' ', one)).split()) for one in re.findall(r'<div class="entry[^>]*><p>(.*?)</p>', page, re.DOTALL)]
+    findings = [' '.join(f"{one['file']}:{f['line']} {f['text']} {f['kind']}".split()) for one in wanted['lists'] for f in one['findings'] if not f['closing']]
+    takers = sum(len(f['by']) for one in wanted['lists'] for f in one['findings'] if not f['closing'])
+    return '' if entries == findings and page.count('<li>by line ') == takers else 'html: other findings'
+
+
+def judge(rng, folder, seed, paged):
     """What is wrong of one folder; nothing where all is right."""
     net = folder / f'net{seed}'
     subprocess.run([sys.executable, str(TOP / 'tests' / 'random_lists.py'), str(net), str(seed), '6'], check=True)
@@ -171,16 +204,17 @@ def judge(rng, folder, seed):
             return f'json: status {status}'
         if VALIDATOR is not None and not VALIDATOR.is_valid(json.loads(out)):
             return 'json: not by its schema'
-        status, out, err = run(VIEW, '--audit', '--csv', *rows, str(audit), str(net))
+        status, out, err = run(PAGES, '--audit', '--csv', *rows, str(audit), str(net))
         lines = list(csv.reader(io.StringIO(out.decode())))
-        if status != 0 or err or [line[:len(other)] for line, other in zip(lines, table_of(wanted, rows))] != table_of(wanted, rows) or len(lines) != len(table_of(wanted, rows)):
+        table = table_of(wanted, rows)
+        if status != 0 or err or len(lines) != len(table) or [line[:len(other)] for line, other in zip(lines, table)] != table:
             return f'csv: status {status}'
         status, out, err = run(VIEW, '--audit', *rows, str(audit), str(net))
         if status != 0 or err or out.decode() != text_of(wanted, rows):
             return f'text: status {status}'
-        status, out, err = run(VIEW, '--audit', '--html', *rows, str(audit), str(net))
-        if status != 0 or err or not out.startswith(b'<!doctype html>\n'):
-            return f'html: status {status}'
+        wrong = judge_page(wanted, rows, audit, net) if paged else ''
+        if wrong:
+            return wrong
     other, line = changed(rng, text)
     audit.write_bytes(other)
     status, out, err = run(VIEW, '--audit', str(audit), str(net))
@@ -197,7 +231,7 @@ def main():
     failed = 0
     with tempfile.TemporaryDirectory() as folder:
         for number in range(seed, seed + count):
-            wrong = judge(rng, pathlib.Path(folder), number)
+            wrong = judge(rng, pathlib.Path(folder), number, JINJA and number < seed + PAGED)
             if wrong:
                 failed += 1
                 print(f'FAILED folder of seed {number}: {wrong}')

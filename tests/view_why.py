@@ -9,11 +9,11 @@ rules in Python too (rules.py). Its line is the next one of `view`, and
 its packet is the least header of the rows for which it stands. A report of the networks the other way round is refused.
 
 Each document of JSON is read back and compared with the text field by field, and where python3-jsonschema is installed validated by
-docs/why-schema.json or docs/traces-schema.json. Of each page the text is that of the explanations, and nothing of a name is markup: in each
-second network devices, interfaces and lists have names with quotes, tags and backslashes.
+docs/why-schema.json or docs/traces-schema.json. The pages of some have the explanations, and nothing of a name is markup: in each second
+network devices, interfaces and lists have names with quotes, tags and backslashes.
 DIQENYU_VIEW and DIQENYU_REVIEW name other built programs. The last line is 'N passed, M failed'.
 """
-import html.parser
+import html
 import json
 import os
 import pathlib
@@ -22,20 +22,33 @@ import subprocess
 import sys
 import tempfile
 
-import rules
-
+sys.dont_write_bytecode = True
 TOP = pathlib.Path(__file__).resolve().parent.parent
+sys.path[:0] = [str(TOP), str(TOP / 'tests')]
+
+import rules  # noqa: E402
+from showing.texts import short, shown  # noqa: E402
+from window_page import Reader, rendering  # noqa: E402
+
 VIEW = os.environ.get('DIQENYU_VIEW', str(TOP / 'view'))
+PAGES = str(TOP / 'view')
 REVIEW = os.environ.get('DIQENYU_REVIEW', str(TOP / 'review'))
-CHANGES = ('loops', 'closes', 'opens', 'moves', 'translated otherwise')
+CHANGES = ('loops', 'closes', 'opens', 'sometimes', 'translated otherwise', 'moves', 'loop gone')
+# Of so many networks the pages are tried, where Jinja2 is there.
+PAGED = 6
 try:
     import jsonschema
     VALIDATORS = {name: jsonschema.Draft7Validator(json.loads((TOP / 'docs' / f'{name}-schema.json').read_text())) for name in ('why', 'traces')}
 except ImportError:
     VALIDATORS = {}
+try:
+    rendering.with_jinja()
+    JINJA = True
+except rendering.NoJinja:
+    JINJA = False
 # Elements of the pages; any other is one of a name.
-ELEMENTS = set('html head meta title style body main h1 h2 section p table caption thead tbody tr th td details summary ul li form label input select option '
-               'button output noscript figure figcaption svg path g circle text pre div mark wbr script code'.split())
+ELEMENTS = set('html head meta title link style body header main footer section aside div p a span b i em ul li dl dt dd h1 h2 h3 small details summary table '
+               'caption colgroup col thead tbody tr th td code pre mark script svg defs marker g path rect circle text title'.split())
 WIDTHS = {'dst': 32, 'src': 32, 'proto': 8, 'dport': 16, 'sport': 16, 'flags': 8}
 
 
@@ -217,80 +230,70 @@ def try_document(what, kind, words, wanted):
             yield f'{what}: not by its schema: {error.message}'
 
 
-class Page(html.parser.HTMLParser):
-    """The elements of a page, and the texts of some."""
-
-    def __init__(self, text):
-        super().__init__()
-        self.elements, self.texts, self.inside = set(), {'pre': [], 'summary': []}, None
-        self.feed(text)
-
-    def handle_starttag(self, tag, attrs):
-        self.elements.add(tag)
-        if tag in self.texts:
-            self.inside = tag
-            self.texts[tag].append('')
-        elif tag == 'mark' and self.inside == 'pre':
-            pass
-
-    def handle_endtag(self, tag):
-        if tag in self.texts:
-            self.inside = None
-        elif tag == 'mark' and self.inside is not None:
-            self.texts[self.inside][-1] += '\n'
-
-    def handle_data(self, data):
-        if self.inside is not None:
-            self.texts[self.inside][-1] += data
-
-
-def escaped(text):
-    """Text as a page shows it: what is no printable character of ASCII as its bytes."""
-    return ''.join(chr(byte) if 32 <= byte < 127 or byte == 10 else f'\\x{byte:02x}' for byte in text.encode())
-
-
-def plain(text):
-    """The text of a line of the groups that are opened on demand."""
-    for name, char in (('&lt;', '<'), ('&gt;', '>'), ('&quot;', '"'), ('&#39;', "'"), ('&amp;', '&')):
-        text = text.replace(name, char)
-    return text
-
-
 def page_of(words):
-    """A page, and what is wrong of it."""
-    status, text, told = run(VIEW, *words)
-    if status != 0 or told or not text.startswith('<!doctype html>\n') or any(ord(char) > 126 for char in text):
-        return None, f'a page with status {status}: {told}'
-    page = Page(text)
-    if page.elements - ELEMENTS:
-        return None, f'elements of names: {page.elements - ELEMENTS}'
-    return page, None
+    """A page, what reads it, and what is wrong of it."""
+    status, text, told = run(PAGES, *words)
+    if status != 0 or told or not text.startswith('<!DOCTYPE html>\n'):
+        return None, None, f'a page with status {status}: {told}'
+    reader = Reader(text)
+    others = {tag for tag, _ in reader.elements} - ELEMENTS
+    return text, reader, f'elements of names: {others}' if others else None
+
+
+def text_of(markup):
+    """A piece of a page as text."""
+    return ' '.join(html.unescape(re.sub('<[^>]*>', ' ', markup)).split())
+
+
+def seen(text):
+    """Text as a page shows it."""
+    return ' '.join(shown(string_of(text)).split())
+
+
+def parting_places(lines):
+    """Where the two traces of a block part: the device and the interface of each, None where a side is over."""
+    old, new, _ = sides_of(lines)
+    both = states_of(old), states_of(new)
+    at = next((at for at, (one, other) in enumerate(zip(*both)) if one != other), min(map(len, both)))
+    places = []
+    for states in both:
+        words = states[at][0].split(' ') if at < len(states) else None
+        places.append(seen(f'{words[3]} {short(words[4])}') if words else None)
+    return places
 
 
 def try_why_page(old, new, links, report, blocks):
-    """The faults of the page of an explanation: under each group stands its packet, and folded the traces."""
-    page, wrong = page_of(['--why-all', '--html', old, new, links, report])
-    if page is None:
+    """The faults of the page of an explanation: each group has its packet, and the places where its two ways part."""
+    text, _, wrong = page_of(['--why-all', '--html', old, new, links, report])
+    if wrong:
         yield f'why: {wrong}'
         return
-    found = [(line[len('Why: '):], rest.rstrip('\n')) for line, rest in
-             zip([line for line in page.texts['summary'] if line.startswith('Why: ')], page.texts['pre'])]
-    lines = run(VIEW, '--why-all', '--html', old, new, links, report)[1].split("id='rest'>\n")[1].split('</script>')[0].split('\n')
-    for line in lines[:-1]:
-        parts = [plain(part) for part in line.split('\t')]
-        found.append((parts[6], '\n'.join(parts[7:]).rstrip('\n')))
-    if sorted(found) != sorted((escaped(block[1]), escaped('\n'.join(block[2:]))) for block in blocks):
-        yield 'why: the page has other explanations'
+    found = []
+    for one in re.findall('<details class="f .*?</details>', text, re.DOTALL):
+        parts = {name: text_of(value) for name, value in re.findall('<dt>(.*?)</dt><dd>(.*?)</dd>', one)}
+        row = re.findall('<tr class="part">(.*?)</tr>', one, re.DOTALL)[0]
+        cells = re.findall(r'<td (?:colspan="2" )?class="(?:today|plan) (dev|none)">(.*?)</td>', row)
+        places = [text_of(cell) if name == 'dev' else None for name, cell in cells]
+        found.append((f"ingress {parts['at']}: {parts['packets']}: {parts['today']} -> {parts['planned']}", parts['example'], places))
+    first = {kind: [block for block in blocks if block[0].split(': ', 1)[1].startswith(kind)][:200] for kind in CHANGES}
+    wanted = []
+    for kind, some in first.items():
+        for block in some:
+            place, words = block[0].split(': ', 1)
+            wanted.append((seen(f'{place}: {words[len(kind):].strip()}'), block[1].removeprefix('packet '), parting_places(block[2:])))
+    if sorted(found, key=str) != sorted(wanted, key=str):
+        yield f'why: the page has other explanations: {[one for one in found if one not in wanted][:1]}, {[one for one in wanted if one not in found][:1]}'
 
 
 def try_traces_page(what, words, lines):
     """The faults of the page of two traces: their lines, in order."""
-    page, wrong = page_of(words)
-    if page is None:
+    text, _, wrong = page_of(words)
+    if wrong:
         yield f'{what}: {wrong}'
         return
-    texts = [text.rstrip('\n') for text in page.texts['pre']]
-    wanted = [escaped('\n'.join(part)) for part in parts_of(lines) if part]
+    pieces = [re.sub('</mark>', '\n', piece) for piece in re.findall('<pre>(.*?)</pre>', text, re.DOTALL)]
+    texts = [html.unescape(re.sub('<[^>]*>', '', piece)).rstrip('\n') for piece in pieces]
+    wanted = ['\n'.join(shown(string_of(line)) for line in part) for part in parts_of(lines) if part]
     if texts != wanted:
         yield f'{what}: the page has other traces'
 
@@ -304,7 +307,7 @@ def with_names(folder):
         path.write_text(text)
 
 
-def try_network(folder):
+def try_network(folder, paged):
     """The faults of the explanations of a network."""
     old, new, links, report = (str(folder / name) for name in ('old', 'new', 'links', 'report'))
     status, text, told = run(REVIEW, 'compare', old, new, links)
@@ -327,7 +330,8 @@ def try_network(folder):
         yield from try_block(block, rows, old, new, links, number < 2)
     wanted = {'schema': 'diqenyu-why', 'version': 1, 'groups': len(blocks), 'explained': len(blocks), 'explanations': [explanation_of(block) for block in blocks]}
     yield from try_document('why', 'why', ['--why-all', '--json', old, new, links, report], wanted)
-    yield from try_why_page(old, new, links, report, blocks)
+    if paged:
+        yield from try_why_page(old, new, links, report, blocks)
     first = run(VIEW, '--why', old, new, links, report)[1]
     if blocks_of(first)[1:] != blocks[:100]:
         yield 'the first hundred are others'
@@ -336,7 +340,7 @@ def try_network(folder):
         yield f'the networks the other way round have status {status}: {told}'
     for line in (folder / 'packets').read_text().split('\n')[:3]:
         if line:
-            yield from try_traces(line, old, new, links)
+            yield from try_traces(line, old, new, links, paged)
 
 
 def explanation_of(block):
@@ -346,7 +350,7 @@ def explanation_of(block):
     return {'device': string_of(device), 'interface': string_of(interface), 'group': string_of(words), 'packet': packet_of(block[1][len('packet '):]), **trace_members(block[2:])}
 
 
-def try_traces(line, old, new, links):
+def try_traces(line, old, new, links, paged):
     """The faults of the traces of a packet, as text, document and page."""
     device, interface, word = line.split(' ')[:3]
     packet = ' '.join(f'{name} {part}' for name, part in zip(WIDTHS, word.split(',')))
@@ -355,7 +359,8 @@ def try_traces(line, old, new, links):
     yield from try_sides(line, lines, old, new, f'{device} {interface}', packet, links)
     wanted = {'schema': 'diqenyu-traces', 'version': 1, 'device': string_of(device), 'interface': string_of(interface), 'packet': packet_of(packet), **trace_members(lines)}
     yield from try_document(line, 'traces', ['--traces', '--json', *words], wanted)
-    yield from try_traces_page(line, ['--traces', '--html', *words], lines)
+    if paged:
+        yield from try_traces_page(line, ['--traces', '--html', *words], lines)
 
 
 def try_example(example):
@@ -366,7 +371,7 @@ def try_example(example):
         for name in ('old', 'new', 'links'):
             (pathlib.Path(scratch) / name).symlink_to(example / name)
         (pathlib.Path(scratch) / 'packets').write_text('')
-        yield from try_network(pathlib.Path(scratch))
+        yield from try_network(pathlib.Path(scratch), False)
 
 
 def main():
@@ -384,7 +389,7 @@ def main():
             subprocess.run([sys.executable, str(TOP / 'tests' / 'random_networks.py'), scratch, str(seed)], check=True)
             if seed % 2 == 0:
                 with_names(pathlib.Path(scratch))
-            faults = list(try_network(pathlib.Path(scratch)))
+            faults = list(try_network(pathlib.Path(scratch), JINJA and seed < first + PAGED))
         for fault in faults:
             print(f'FAILED network {seed}: {fault}')
         passed, failed = passed + (not faults), failed + bool(faults)

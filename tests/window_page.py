@@ -22,7 +22,8 @@ TOP = os.path.dirname(os.path.dirname(os.path.abspath(__file__)))
 sys.dont_write_bytecode = True
 sys.path.insert(0, TOP)
 
-from showing import hops, page, picture  # noqa: E402
+from launching import programs  # noqa: E402
+from showing import hops, page, picture, rendering  # noqa: E402
 from showing.texts import shown  # noqa: E402
 
 CAMPUS = ["examples/campus/old", "examples/campus/new", "examples/campus/links"]
@@ -411,6 +412,8 @@ class Run(unittest.TestCase):
             lines.append(hashlib.sha256(stream.read()).hexdigest())
         for one in lines:
             self.assertIn("sha256 " + one, text)
+        for name in ("review", "doctor"):
+            self.assertIn("%s%s," % (name, programs.find(name).told()), " ".join(text.split()))
         self.assertIn("same in both: BRANCH Vl40 \u2192 ", text)
 
     def test_table_that_is_not_there(self) -> None:
@@ -453,8 +456,8 @@ class Run(unittest.TestCase):
 
 if __name__ == "__main__":
     try:
-        page.with_jinja()
-    except page.NoJinja:
+        rendering.with_jinja()
+    except rendering.NoJinja:
         print("window's page isn't tried: python3-jinja2 isn't there")
         sys.exit(0)
     unittest.main(verbosity=1)

@@ -12,20 +12,20 @@ use Rattle.job_core.proofs.AcceptedLemmas.{then_may_stop, file_may_stop, bytes_a
 use Rattle.view_core.specs.Reports.{report_limit, UnreadReport}
 use Rattle.answer_view.specs.declared.asked.Asked.{Asked}
 use Rattle.answer_view.specs.declared.answered.Answered.{Answered}
-use Rattle.answer_view.specs.declared.words.Form.{Form}
+use Rattle.view_core.specs.declared.words.Format.{Format}
 use Rattle.answer_view.specs.Asked.{asked_in}
 use Rattle.answer_view.specs.Answered.{answered_from}
 use Rattle.answer_view.specs.Views.{IsView, Views, IsRefused, AnswersFail, GivesAnswers, ShowsSince, ShowsFor, Shows, Performs, Does, AcceptedAnswers, AcceptedBefore, AcceptedPaths, AcceptedOr, IsAccepted}
-use Rattle.answer_view.specs.Words.{paths_of, before_of, form_of}
+use Rattle.answer_view.specs.Words.{paths_of, before_of, format_of}
 use Rattle.answer_view.proofs.Answers.{one_list}
 
 -- what is shown of the files that the words name is what they ask
-pub does_show : (words : List (List ℕ)) (questions after : List ℕ) (before : Option (List ℕ)) (f : Form) → paths_of words ≡ Some (questions, after) → before ≡ before_of words → f ≡ form_of words
+pub does_show : (words : List (List ℕ)) (questions after : List ℕ) (before : Option (List ℕ)) (f : Format) → paths_of words ≡ Some (questions, after) → before ≡ before_of words → f ≡ format_of words
     → (told : Option Told) (r : Result Report Stop) → IfSome told (λ t. Shows t f questions before after r) → IfSome told (λ t. Does words t r)
 does_show words questions after before f p b e None r h = tt
 does_show words questions after before f p b e (Some t) r h =
-    subst (λ o. Performs o (before_of words) (form_of words) t r) (sym p)
-    (subst (λ o. Shows t (form_of words) questions o after r) b (subst (λ q. Shows t q questions before after r) e h))
+    subst (λ o. Performs o (before_of words) (format_of words) t r) (sym p)
+    (subst (λ o. Shows t (format_of words) questions o after r) b (subst (λ q. Shows t q questions before after r) e h))
 
 -- ---- what may stop a view that is accepted
 
@@ -68,13 +68,13 @@ module _ (t : Told) (path : List ℕ) (count : ℕ) (a : AcceptedAnswers t path 
   answers_may_stop s (inl unread) = unread_may_stop s unread
   answers_may_stop s (inr (bytes, there, fails)) = fails_may_stop s (subst (λ (b : List ℕ). AnswersFail path count b s) (some_is (content t path) bytes a.bytes there a.there) fails)
 
-views_may_stop : (f : Form) (answered : List Answered) (s : Stop) → Views f true answered (Err s) → MayAlwaysStop s
+views_may_stop : (f : Format) (answered : List Answered) (s : Stop) → Views f true answered (Err s) → MayAlwaysStop s
 views_may_stop f answered s h = writing_may_stop (λ r. IsView f true answered r.text.items × (r.affected ≡ false)) s h
 
-alone_may_stop : (f : Form) (answered : List Answered) (s : Stop) → Views f false answered (Err s) → MayAlwaysStop s
+alone_may_stop : (f : Format) (answered : List Answered) (s : Stop) → Views f false answered (Err s) → MayAlwaysStop s
 alone_may_stop f answered s h = writing_may_stop (λ r. IsView f false answered r.text.items × (r.affected ≡ false)) s h
 
-module _ (t : Told) (f : Form) (after : List ℕ) (asked : List Asked) (s : Stop) (a : AcceptedAnswers t after (length asked)) where
+module _ (t : Told) (f : Format) (after : List ℕ) (asked : List Asked) (s : Stop) (a : AcceptedAnswers t after (length asked)) where
   since_may_stop : (before : List Answer) → ShowsSince t f after asked before (Err s) → MayAlwaysStop s
   since_may_stop before h =
       then_may_stop (GivesAnswers (λ (xs : List Answer). xs) t after (length asked)) (λ answers. Views f true (answered_from 1 asked (map Some before) answers)) s (answers_may_stop t after (length asked) a)
@@ -88,15 +88,15 @@ module _ (t : Told) (f : Form) (after : List ℕ) (asked : List Asked) (s : Stop
       then_may_stop (GivesAnswers (λ (xs : List Answer). xs) t before (length asked)) (ShowsSince t f after asked) s (answers_may_stop t before (length asked) b)
       (λ answers given next. since_may_stop answers next) h
 
-shows_may_stop : (t : Told) (f : Form) (questions after : List ℕ) (before : Option (List ℕ)) (s : Stop) → AcceptedPaths t questions before after → Shows t f questions before after (Err s) → MayAlwaysStop s
+shows_may_stop : (t : Told) (f : Format) (questions after : List ℕ) (before : Option (List ℕ)) (s : Stop) → AcceptedPaths t questions before after → Shows t f questions before after (Err s) → MayAlwaysStop s
 shows_may_stop t f questions after before s a h =
     then_may_stop (GivesBytes (λ (bs : List ℕ). bs) questions (content t questions)) (λ bytes. ShowsFor t f before after (asked_in bytes)) s (file_may_stop t questions a.asked)
     (λ bytes given next. for_may_stop t f after (asked_in a.asked.bytes) s a.later before a.earlier
     (subst (λ (bs : List ℕ). ShowsFor t f before after (asked_in bs) (Err s)) (bytes_are t questions bytes a.asked given.0) next)) h
 
-named_may_stop : (paths : Option (List ℕ × List ℕ)) (before : Option (List ℕ)) (f : Form) (t : Told) (s : Stop) → AcceptedOr paths before t → Performs paths before f t (Err s) → MayAlwaysStop s
+named_may_stop : (paths : Option (List ℕ × List ℕ)) (before : Option (List ℕ)) (f : Format) (t : Told) (s : Stop) → AcceptedOr paths before t → Performs paths before f t (Err s) → MayAlwaysStop s
 named_may_stop None before f t s a d = absurd a
 named_may_stop (Some paths) before f t s a d = shows_may_stop t f paths.0 paths.1 before s a d
 
 pub accepted_may_stop : (words : List (List ℕ)) (t : Told) (s : Stop) → IsAccepted words t → Does words t (Err s) → MayAlwaysStop s
-accepted_may_stop words t s a d = named_may_stop (paths_of words) (before_of words) (form_of words) t s a d
+accepted_may_stop words t s a d = named_may_stop (paths_of words) (before_of words) (format_of words) t s a d

@@ -5,7 +5,5 @@ pub mod Answered
 pub mod Packet
 pub mod ShownText
 pub mod ShownJson
-pub mod ShownTable
-pub mod ShownCases
 pub mod Words
 pub mod Views

@@ -1,5 +1,5 @@
 -- The packet of an answer in words.
-use Rattle.std.specs.Prelude.{ℕ, ◌==◌, Bool, false, ◌||◌, List, [], ◌∷◌, drop, if◌then◌else◌}
+use Rattle.std.specs.Prelude.{ℕ, ◌==◌, Bool, false, ◌||◌, List, [], ◌∷◌, if◌then◌else◌}
 use Rattle.hdr_bits.specs.declared.header.Header.{Header}
 use Rattle.net_types.specs.declared.question.Answer.{Answer}
 use Rattle.net_types.specs.declared.question.Answer.TheVariants.{Holds, Fails}
@@ -9,6 +9,7 @@ use Rattle.report_groups.specs.declared.types.Part.TheVariants.{Run}
 use Rattle.report_groups.specs.declared.types.Shown.{Shown}
 use Rattle.report_groups.specs.declared.types.Values.{Values}
 use Rattle.view_core.specs.FieldWords.{words_text}
+use Rattle.view_core.specs.GroupJson.{behind_blanks}
 
 -- the values from the first to the last
 abbrev pub values_from : ℕ → ℕ → Values
@@ -46,7 +47,7 @@ packet_shown h =
 
 -- its words, without the two blanks before them
 unfoldable pub packet_words : Header → List ℕ
-packet_words h = drop 2 (words_text (packet_shown h))
+packet_words h = behind_blanks (words_text (packet_shown h))
 
 -- the words of the packet for which an answer fails; none of one that holds
 abbrev pub failing_words : Answer → List ℕ

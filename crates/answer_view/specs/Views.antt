@@ -1,6 +1,5 @@
 -- What the program does.
-use Rattle.std.specs.Prelude.{ℕ, ◌+◌, Bool, true, false, ◌≡◌, ◌≢◌, ◌⊎◌, ◌≤◌, List, [], Option, None, Some, Result, Ok, Err, length, map, min, nat_eq, codes}
-use Rattle.std.specs.List.{starts_with}
+use Rattle.std.specs.Prelude.{ℕ, ◌+◌, Bool, true, false, ◌≡◌, ◌≢◌, ◌⊎◌, ◌≤◌, List, [], Option, None, Some, Result, Ok, Err, length, map, min, codes}
 use Rattle.net_io.specs.Files.{Told, content}
 use Rattle.net_types.specs.declared.question.Answer.{Answer}
 use Rattle.job_core.specs.declared.report.Report.{Report}
@@ -9,13 +8,11 @@ use Rattle.job_core.specs.declared.stop.Stop.TheVariants as stop
 use Rattle.job_core.specs.Accepted.{AcceptedFile}
 use Rattle.job_core.specs.Steps.{Then, OrNoMemory, GivesBytes}
 use Rattle.view_core.specs.Names.{text_lines}
-use Rattle.view_core.specs.Pages.{IsPage}
 use Rattle.view_core.specs.Reports.{report_limit, UnreadReport}
-use Rattle.view_core.specs.Views.{page_head}
 use Rattle.answer_view.specs.declared.asked.Asked.{Asked}
 use Rattle.answer_view.specs.declared.answered.Answered.{Answered}
-use Rattle.answer_view.specs.declared.words.Form.{Form}
-use Rattle.answer_view.specs.declared.words.Form.TheVariants as form
+use Rattle.view_core.specs.declared.words.Format.{Format}
+use Rattle.view_core.specs.declared.words.Format.TheVariants as format
 use Rattle.answer_view.specs.Asked.{asked_in}
 use Rattle.answer_view.specs.AnswerText.{AreAnswers, answers_text}
 use Rattle.answer_view.specs.Said.{said_in}
@@ -23,22 +20,17 @@ use Rattle.view_core.specs.Differing.{same_lines}
 use Rattle.answer_view.specs.Answered.{answered_from}
 use Rattle.answer_view.specs.ShownText.{view_text}
 use Rattle.answer_view.specs.ShownJson.{answers_json}
-use Rattle.answer_view.specs.ShownTable.{answers_table}
-use Rattle.answer_view.specs.ShownCases.{cases_xml}
-use Rattle.answer_view.specs.Words.{paths_of, before_of, form_of}
+use Rattle.answer_view.specs.Words.{paths_of, before_of, format_of}
 
 -- ---- what is shown
 
--- text, a document, a table and cases are exactly those of the answers; a page begins as one, and all text that stands in it is escaped
-abbrev pub IsView : Form → Bool → List Answered → List ℕ → Type 0
-IsView form.Text compared answered text = text ≡ view_text compared answered
-IsView form.Page compared answered text = (starts_with nat_eq text page_head ≡ true) × ∥ IsPage text ∥₁
-IsView form.Json compared answered text = text ≡ answers_json compared answered
-IsView form.Table compared answered text = text ≡ answers_table answered
-IsView form.Cases compared answered text = text ≡ cases_xml answered
+-- the text and the document are exactly those of the answers
+abbrev pub IsView : Format → Bool → List Answered → List ℕ → Type 0
+IsView format.Text compared answered text = text ≡ view_text compared answered
+IsView format.Json compared answered text = text ≡ answers_json compared answered
 
 -- the view, which has nothing that status 1 tells; or that there was no memory for it
-abbrev pub Views : Form → Bool → List Answered → Result Report Stop → Type 0
+abbrev pub Views : Format → Bool → List Answered → Result Report Stop → Type 0
 Views f compared answered = OrNoMemory (λ r. IsView f compared answered r.text.items × (r.affected ≡ false))
 
 -- ---- files of answers
@@ -92,28 +84,28 @@ GivesAnswers view t path count (Err s) =
 -- ---- the steps, each over what the files tell: what it gives, or why the program stops there
 
 -- the questions with these answers before, and those of a file
-abbrev pub ShowsSince : Told → Form → List ℕ → List Asked → List Answer → Result Report Stop → Type 0
+abbrev pub ShowsSince : Told → Format → List ℕ → List Asked → List Answer → Result Report Stop → Type 0
 ShowsSince t f after asked before =
     Then (GivesAnswers (λ answers. answers) t after (length asked)) (λ answers. Views f true (answered_from 1 asked (map Some before) answers))
 
 -- the questions with the answers of one file, or of two, of which that of the answers before is read first
-abbrev pub ShowsFor : Told → Form → Option (List ℕ) → List ℕ → List Asked → Result Report Stop → Type 0
+abbrev pub ShowsFor : Told → Format → Option (List ℕ) → List ℕ → List Asked → Result Report Stop → Type 0
 ShowsFor t f None after asked =
     Then (GivesAnswers (λ answers. answers) t after (length asked)) (λ answers. Views f false (answered_from 1 asked (map (λ a. None) answers) answers))
 ShowsFor t f (Some before) after asked = Then (GivesAnswers (λ answers. answers) t before (length asked)) (ShowsSince t f after asked)
 
 -- the questions are read first
-abbrev pub Shows : Told → Form → List ℕ → Option (List ℕ) → List ℕ → Result Report Stop → Type 0
+abbrev pub Shows : Told → Format → List ℕ → Option (List ℕ) → List ℕ → Result Report Stop → Type 0
 Shows t f questions before after =
     Then (GivesBytes (λ bytes. bytes) questions (content t questions)) (λ bytes. ShowsFor t f before after (asked_in bytes))
 
-abbrev pub Performs : Option (List ℕ × List ℕ) → Option (List ℕ) → Form → Told → Result Report Stop → Type 0
+abbrev pub Performs : Option (List ℕ × List ℕ) → Option (List ℕ) → Format → Told → Result Report Stop → Type 0
 Performs None before f t result = ⊥
 Performs (Some paths) before f t result = Shows t f paths.0 before paths.1 result
 
 -- what the words ask, done; or why it isn't
 abbrev pub Does : List (List ℕ) → Told → Result Report Stop → Type 0
-Does words t result = Performs (paths_of words) (before_of words) (form_of words) t result
+Does words t result = Performs (paths_of words) (before_of words) (format_of words) t result
 
 -- ---- what may be shown
 

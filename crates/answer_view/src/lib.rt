@@ -6,16 +6,13 @@
 
 mod answered;
 mod asked;
-mod cases;
 mod groups;
 mod headers;
 mod json;
 mod packet;
-mod page;
 mod printed;
 mod reading;
 mod said;
-mod table;
 mod text;
 mod top;
 mod words;

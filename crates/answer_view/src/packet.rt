@@ -1,15 +1,13 @@
 //! The packet of an answer in words.
-ghost use Rattle.std.specs.Prelude.{◌≡◌, ◌++◌, ℕ, List, codes, drop, IfOk, OnOk};
-ghost use Rattle.report_text.specs.ReportText.{label_text};
-ghost use Rattle.view_core.specs.FieldWords.{words_text};
+ghost use Rattle.std.specs.Prelude.{◌≡◌, ◌++◌, IfOk, OnOk};
 ghost use Rattle.answer_view.specs.Packet.{values_from, has_ports, has_source, port_shown, flags_set, flags_shown, packet_shown, packet_words};
 
 use hdr_bits::Header;
-use net_types::{List, Names, NoMemory};
-use report_groups::{Change, Entry, Flags, Group, Part, Pattern, Shown, Span, Values};
+use net_types::{List, NoMemory};
+use report_groups::{Flags, Part, Pattern, Shown, Span, Values};
 use report_text::append;
 use std::alloc::Global;
-use view_core::group_bytes;
+use view_core::{append_fields, behind_blanks};
 
 const ICMP: u8 = 1;
 
@@ -26,37 +24,9 @@ pub(crate) fn append_packet(
 ) -> Result<(), NoMemory>
     ensures { OnOk result (out.new.items ≡ out.old.items ++ packet_words header.now) }
 {
-    let line = line_of(alloc, packet_shown(alloc, header)?)?;
-    append(out, words_in(&line))
-}
-
-// The line of a group of these headers that has no outcomes: `moves`, the words of the headers, and nothing of outcomes.
-fn line_of(alloc: Global, shown: Shown) -> Result<Vec<u8>, NoMemory>
-    ensures { IfOk result (λ line. line.items ≡ codes "moves" ++ (words_text shown ++ codes ":  -> \n")) }
-{
-    let entry = Entry {
-        change: Change::Moves,
-        shown,
-        group: Group {
-            fields: List::empty(alloc),
-            old: List::empty(alloc),
-            new: List::empty(alloc),
-        },
-    };
-    let names = Names {
-        texts: List::empty(alloc),
-    };
-    let line = group_bytes(alloc, &names, &entry)?;
-    Ok(line)
-}
-
-// The words of the headers in such a line, without the two blanks before them.
-fn words_in(line: &[u8]) -> &[u8]
-    ensures { (words : List ℕ) → line.now ≡ codes "moves" ++ (words ++ codes ":  -> \n") → result.now ≡ drop 2 words }
-{
-    let end = line.len().saturating_sub(7);
-    let start = end.min(7);
-    &line[start..end]
+    let mut words = Vec::new(alloc);
+    append_fields(alloc, &mut words, &packet_shown(alloc, header)?)?;
+    append(out, behind_blanks(&words))
 }
 
 #[tactic(auto, unfolding(crate::specs::Packet::packet_shown))]

@@ -11,17 +11,15 @@ ghost use Rattle.answer_view.specs.Words.{is_asked};
 
 use crate::answered::{Answered, given_before, none_before, with_answers};
 use crate::asked::{Asked, asked_in};
-use crate::cases::cases_bytes;
 use crate::json::json_bytes;
-use crate::page::page_bytes;
 use crate::reading::read_answers;
-use crate::table::table_bytes;
 use crate::text::view_bytes;
-use crate::words::{Form, before_of, form_of, is_asked, paths_of};
+use crate::words::{before_of, format_of, is_asked, paths_of};
 use job_core::{Report, Stop, finish, read_bytes, refuse};
 use net_io::{Files, Sink};
 use net_types::{Answer, NoMemory};
 use std::alloc::Global;
+use view_core::Format;
 use view_words::USAGE;
 
 /// Shows answers to questions, as the words ask, and answers the status: 0 where they were written, and else as every program of the
@@ -67,7 +65,7 @@ fn perform<F: Files>(alloc: Global, files: &mut F, words: &[String]) -> Result<R
         questions,
         before_of(words),
         after,
-        form_of(words),
+        format_of(words),
     )
 }
 
@@ -78,14 +76,14 @@ fn show<F: Files>(
     questions: &str,
     before: Option<&str>,
     after: &str,
-    form: Form,
+    format: Format,
 ) -> Result<Report, Stop>
-    ensures shows { IfSome (F.told files.old) (λ t. Shows t form questions.now (option_map (λ path. path.now) before.entry) after.now result) }
+    ensures shows { IfSome (F.told files.old) (λ t. Shows t format questions.now (option_map (λ path. path.now) before.entry) after.now result) }
     ensures plain { IfOk result (λ r. r.affected ≡ false) }
     ensures cause { HasCause (F.faults files.old) (F.faults files.new) result }
 {
     match read_bytes(alloc, files, questions) {
-        Ok(bytes) => show_of(alloc, files, &bytes, before, after, form),
+        Ok(bytes) => show_of(alloc, files, &bytes, before, after, format),
         Err(stop) => Err(stop),
     }
 }
@@ -97,17 +95,17 @@ fn show_of<F: Files>(
     bytes: &[u8],
     before: Option<&str>,
     after: &str,
-    form: Form,
+    format: Format,
 ) -> Result<Report, Stop>
     requires { length bytes.now ≤ file_limit }
-    ensures shows { IfSome (F.told files.old) (λ t. ShowsFor t form (option_map (λ path. path.now) before.entry) after.now (asked_in bytes.now) result) }
+    ensures shows { IfSome (F.told files.old) (λ t. ShowsFor t format (option_map (λ path. path.now) before.entry) after.now (asked_in bytes.now) result) }
     ensures plain { IfOk result (λ r. r.affected ≡ false) }
     ensures cause { HasCause (F.faults files.old) (F.faults files.new) result }
 {
     let asked = asked_in(alloc, bytes)?;
     match before {
-        None => show_alone(alloc, files, asked, after, form),
-        Some(before) => show_both(alloc, files, asked, before, after, form),
+        None => show_alone(alloc, files, asked, after, format),
+        Some(before) => show_both(alloc, files, asked, before, after, format),
     }
 }
 
@@ -117,14 +115,14 @@ fn show_alone<F: Files>(
     files: &mut F,
     asked: Vec<Asked>,
     after: &str,
-    form: Form,
+    format: Format,
 ) -> Result<Report, Stop>
-    ensures shows { IfSome (F.told files.old) (λ t. ShowsFor t form None after.now asked.items result) }
+    ensures shows { IfSome (F.told files.old) (λ t. ShowsFor t format None after.now asked.items result) }
     ensures plain { IfOk result (λ r. r.affected ≡ false) }
     ensures cause { HasCause (F.faults files.old) (F.faults files.new) result }
 {
     match read_answers(alloc, files, after, asked.len()) {
-        Ok(answers) => view_alone(alloc, asked, answers, form),
+        Ok(answers) => view_alone(alloc, asked, answers, format),
         Err(stop) => Err(stop),
     }
 }
@@ -136,14 +134,14 @@ fn show_both<F: Files>(
     asked: Vec<Asked>,
     before: &str,
     after: &str,
-    form: Form,
+    format: Format,
 ) -> Result<Report, Stop>
-    ensures shows { IfSome (F.told files.old) (λ t. ShowsFor t form (Some before.now) after.now asked.items result) }
+    ensures shows { IfSome (F.told files.old) (λ t. ShowsFor t format (Some before.now) after.now asked.items result) }
     ensures plain { IfOk result (λ r. r.affected ≡ false) }
     ensures cause { HasCause (F.faults files.old) (F.faults files.new) result }
 {
     match read_answers(alloc, files, before, asked.len()) {
-        Ok(answers) => show_since(alloc, files, asked, answers, after, form),
+        Ok(answers) => show_since(alloc, files, asked, answers, after, format),
         Err(stop) => Err(stop),
     }
 }
@@ -154,14 +152,14 @@ fn show_since<F: Files>(
     asked: Vec<Asked>,
     before: Vec<Answer>,
     after: &str,
-    form: Form,
+    format: Format,
 ) -> Result<Report, Stop>
-    ensures shows { IfSome (F.told files.old) (λ t. ShowsSince t form after.now asked.items before.items result) }
+    ensures shows { IfSome (F.told files.old) (λ t. ShowsSince t format after.now asked.items before.items result) }
     ensures plain { IfOk result (λ r. r.affected ≡ false) }
     ensures cause { HasCause (F.faults files.old) (F.faults files.new) result }
 {
     match read_answers(alloc, files, after, asked.len()) {
-        Ok(answers) => view_since(alloc, asked, before, answers, form),
+        Ok(answers) => view_since(alloc, asked, before, answers, format),
         Err(stop) => Err(stop),
     }
 }
@@ -170,15 +168,15 @@ fn view_alone(
     alloc: Global,
     asked: Vec<Asked>,
     after: Vec<Answer>,
-    form: Form,
+    format: Format,
 ) -> Result<Report, Stop>
-    ensures views { Views form false (answered_from 1 asked.items (map (λ a. None) after.items) after.items) result }
+    ensures views { Views format false (answered_from 1 asked.items (map (λ a. None) after.items) after.items) result }
     ensures plain { IfOk result (λ r. r.affected ≡ false) }
     ensures read { IfErr result WasRead }
 {
     let before = none_before(alloc, &after)?;
     let answered = with_answers(alloc, asked, before, after)?;
-    let report = shown(alloc, form, false, &answered)?;
+    let report = shown(alloc, format, false, &answered)?;
     Ok(report)
 }
 
@@ -187,29 +185,29 @@ fn view_since(
     asked: Vec<Asked>,
     before: Vec<Answer>,
     after: Vec<Answer>,
-    form: Form,
+    format: Format,
 ) -> Result<Report, Stop>
-    ensures views { Views form true (answered_from 1 asked.items (map Some before.items) after.items) result }
+    ensures views { Views format true (answered_from 1 asked.items (map Some before.items) after.items) result }
     ensures plain { IfOk result (λ r. r.affected ≡ false) }
     ensures read { IfErr result WasRead }
 {
     let given = given_before(alloc, &before)?;
     let answered = with_answers(alloc, asked, given, after)?;
-    let report = shown(alloc, form, true, &answered)?;
+    let report = shown(alloc, format, true, &answered)?;
     Ok(report)
 }
 
 // Nothing is affected where nothing is compared anew.
 fn shown(
     alloc: Global,
-    form: Form,
+    format: Format,
     compared: bool,
     answered: &[Answered],
 ) -> Result<Report, NoMemory>
-    ensures view { IfOk result (λ r. IsView form compared answered.now r.text.items) }
+    ensures view { IfOk result (λ r. IsView format compared answered.now r.text.items) }
     ensures plain { IfOk result (λ r. r.affected ≡ false) }
 {
-    let text = text_of(alloc, form, compared, answered)?;
+    let text = text_of(alloc, format, compared, answered)?;
     Ok(Report {
         text,
         affected: false,
@@ -218,17 +216,14 @@ fn shown(
 
 fn text_of(
     alloc: Global,
-    form: Form,
+    format: Format,
     compared: bool,
     answered: &[Answered],
 ) -> Result<Vec<u8>, NoMemory>
-    ensures { IfOk result (λ text. IsView form compared answered.now text.items) }
+    ensures { IfOk result (λ text. IsView format compared answered.now text.items) }
 {
-    match form {
-        Form::Text => view_bytes(alloc, compared, answered),
-        Form::Page => page_bytes(alloc, compared, answered),
-        Form::Json => json_bytes(alloc, compared, answered),
-        Form::Table => table_bytes(alloc, answered),
-        Form::Cases => cases_bytes(alloc, answered),
+    match format {
+        Format::Text => view_bytes(alloc, compared, answered),
+        Format::Json => json_bytes(alloc, compared, answered),
     }
 }

@@ -1,22 +1,9 @@
 //! The words of the command line.
 ghost use Rattle.std.specs.Prelude.{◌≡◌, map, string_bytes, option_map};
-ghost use Rattle.answer_view.specs.Words.{form_named, form_words, form_in, behind_form, form_of, operands, paths_in, paths_of, before_in, before_of, is_asked};
+ghost use Rattle.answer_view.specs.Words.{format_words, format_of, operands, paths_in, paths_of, before_in, before_of, is_asked};
 
+use view_core::{Format, behind_format, format_of as first_format};
 use view_words::is_operand;
-
-/// A form in which answers are shown.
-#[derive(Clone, Copy, Debug, PartialEq, Eq)]
-pub enum Form {
-    Text,
-    /// A page of HTML.
-    Page,
-    /// One document of JSON.
-    Json,
-    /// A table of comma-separated values.
-    Table,
-    /// Test cases in the XML of JUnit.
-    Cases,
-}
 
 /// Whether the words are within the usage.
 pub(crate) fn is_asked(words: &[String]) -> bool
@@ -25,11 +12,11 @@ pub(crate) fn is_asked(words: &[String]) -> bool
     paths_of(words).is_some()
 }
 
-/// In which form the answers are shown.
-pub(crate) fn form_of(words: &[String]) -> Form
-    ensures { result ≡ form_of (map string_bytes words.now) }
+/// In which format the answers are shown.
+pub(crate) fn format_of(words: &[String]) -> Format
+    ensures { result ≡ format_of (map string_bytes words.now) }
 {
-    form_in(form_words(words))
+    first_format(format_words(words))
 }
 
 /// The paths of the questions and of the answers now.
@@ -49,28 +36,12 @@ pub(crate) fn before_of(words: &[String]) -> Option<&str>
 fn operands(words: &[String]) -> &[String]
     ensures { map string_bytes result.now ≡ operands (map string_bytes words.now) }
 {
-    behind_form(form_words(words))
-}
-
-fn form_named(word: &[u8]) -> Option<Form>
-    ensures { result ≡ form_named word.now }
-{
-    if word == b"--html".as_slice() {
-        Some(Form::Page)
-    } else if word == b"--json".as_slice() {
-        Some(Form::Json)
-    } else if word == b"--csv".as_slice() {
-        Some(Form::Table)
-    } else if word == b"--junit".as_slice() {
-        Some(Form::Cases)
-    } else {
-        None
-    }
+    behind_format(format_words(words))
 }
 
 // The words behind the command: none where it is another.
-fn form_words(words: &[String]) -> &[String]
-    ensures { map string_bytes result.now ≡ form_words (map string_bytes words.now) }
+fn format_words(words: &[String]) -> &[String]
+    ensures { map string_bytes result.now ≡ format_words (map string_bytes words.now) }
 {
     match words {
         [command, rest @ ..] => {
@@ -81,30 +52,6 @@ fn form_words(words: &[String]) -> &[String]
             }
         }
         _ => &[],
-    }
-}
-
-fn form_in(words: &[String]) -> Form
-    ensures { result ≡ form_in (map string_bytes words.now) }
-{
-    match words {
-        [] => Form::Text,
-        [first, ..] => form_named(first.as_bytes()).unwrap_or(Form::Text),
-    }
-}
-
-fn behind_form(words: &[String]) -> &[String]
-    ensures { map string_bytes result.now ≡ behind_form (map string_bytes words.now) }
-{
-    match words {
-        [] => words,
-        [first, rest @ ..] => {
-            if form_named(first.as_bytes()).is_some() {
-                rest
-            } else {
-                words
-            }
-        }
     }
 }
 

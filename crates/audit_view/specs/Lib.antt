@@ -4,6 +4,5 @@ pub mod Audited
 pub mod Shown
 pub mod ShownText
 pub mod ShownJson
-pub mod ShownTable
 pub mod Words
 pub mod Views

@@ -1,6 +1,5 @@
 -- What the program does.
-use Rattle.std.specs.Prelude.{ℕ, ◌+◌, Bool, true, false, ◌≡◌, ◌≢◌, ◌⊎◌, ◌≤◌, List, [], ◌∷◌, Option, None, Some, Result, Ok, Err, length, nat_eq, reverse}
-use Rattle.std.specs.List.{starts_with}
+use Rattle.std.specs.Prelude.{ℕ, ◌+◌, Bool, false, ◌≡◌, ◌≢◌, ◌⊎◌, ◌≤◌, List, [], ◌∷◌, Option, None, Some, Result, Ok, Err, length, reverse}
 use Rattle.net_io.specs.Files.{Told, content, path_in}
 use Rattle.net_types.specs.declared.config.Loaded.{Loaded}
 use Rattle.job_core.specs.declared.report.Report.{Report}
@@ -11,9 +10,7 @@ use Rattle.job_inputs.specs.Folders.{GivesFolder, AcceptedFolder}
 use Rattle.view_core.specs.declared.words.Format.{Format}
 use Rattle.view_core.specs.declared.words.Format.TheVariants as format
 use Rattle.view_core.specs.Names.{text_lines}
-use Rattle.view_core.specs.Pages.{IsPage}
 use Rattle.view_core.specs.Reports.{report_limit, GivesReport}
-use Rattle.view_core.specs.Views.{page_head}
 use Rattle.audit_view.specs.declared.audited.AuditedList.{AuditedList}
 use Rattle.audit_view.specs.declared.lists.FolderList.{FolderList}
 use Rattle.audit_view.specs.declared.words.Manner.{Manner}
@@ -23,17 +20,14 @@ use Rattle.audit_view.specs.Audited.{with_findings, audit_print, first_unknown}
 use Rattle.view_core.specs.Differing.{same_lines}
 use Rattle.audit_view.specs.ShownText.{view_text}
 use Rattle.audit_view.specs.ShownJson.{audit_json}
-use Rattle.audit_view.specs.ShownTable.{audit_table}
 use Rattle.audit_view.specs.Words.{paths_of, manner_of}
 
 -- ---- what is shown
 
--- text, a document and a table are exactly those of the findings; a page begins as one, and all text that stands in it is escaped
+-- the text and the document are exactly those of the findings
 abbrev pub IsFormat : Format → Bool → List AuditedList → List ℕ → Type 0
 IsFormat format.Text rows audited text = text ≡ view_text rows audited
-IsFormat format.Page rows audited text = (starts_with nat_eq text page_head ≡ true) × ∥ IsPage text ∥₁
 IsFormat format.Json rows audited text = text ≡ audit_json rows audited
-IsFormat format.Csv rows audited text = text ≡ audit_table rows audited
 
 abbrev pub IsView : Manner → List AuditedList → List ℕ → Type 0
 IsView m audited text = IsFormat m.format m.rows audited text

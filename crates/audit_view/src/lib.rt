@@ -6,13 +6,11 @@
 #![tactic(auto)]
 
 mod audited;
-mod csv;
 mod findings;
 mod folder;
 mod groups;
 mod json;
 mod lists;
-mod page;
 mod printed;
 mod said;
 mod text;

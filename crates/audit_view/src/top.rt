@@ -8,12 +8,10 @@ ghost use Rattle.audit_view.specs.Views.{IsFault, IsView, Views, ViewsWith, Show
 ghost use Rattle.audit_view.specs.Words.{is_asked};
 
 use crate::audited::{AuditedList, with_findings};
-use crate::csv::csv_bytes;
 use crate::findings::findings_in;
 use crate::folder::read_net;
 use crate::json::json_bytes;
 use crate::lists::FolderList;
-use crate::page::page_bytes;
 use crate::printed::audit_bytes;
 use crate::text::view_bytes;
 use crate::unknown::first_unknown;
@@ -167,8 +165,6 @@ fn text_of(alloc: Global, audited: &[AuditedList], manner: Manner) -> Result<Vec
 {
     match manner.format {
         Format::Text => view_bytes(alloc, audited, manner.rows),
-        Format::Page => page_bytes(alloc, audited, manner.rows),
         Format::Json => json_bytes(alloc, audited, manner.rows),
-        Format::Csv => csv_bytes(alloc, audited, manner.rows),
     }
 }

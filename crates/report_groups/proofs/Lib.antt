@@ -7,3 +7,4 @@ pub mod Unions
 pub mod Showing
 pub mod ShownLemmas
 pub mod LeastLemmas
+pub mod Counting

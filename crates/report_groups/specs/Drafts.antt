@@ -1,5 +1,5 @@
 -- Groups while they are made. No public contract names these.
-use Rattle.std.specs.Prelude.{ℕ, ◌≡◌, ◌≤◌, ◌<◌, ◌⊎◌, List, [], ◌∷◌, ◌++◌, length, map, Some, slice_set, slice_get, slice_index_or, IsPermutation}
+use Rattle.std.specs.Prelude.{ℕ, ◌≡◌, ◌≤◌, ◌<◌, ◌^◌, ◌⊎◌, List, [], ◌∷◌, ◌++◌, length, map, Some, slice_set, slice_get, slice_index_or, IsPermutation}
 use Rattle.std.specs.List.{flat_map, AllByRecursion}
 use Rattle.report_groups.specs.declared.types.Group.{Group}
 use Rattle.report_groups.specs.declared.types.Pattern.{Pattern}
@@ -9,6 +9,10 @@ use Rattle.report_groups.specs.Groups.{cells_of, field_at, with_field, without, 
 -- a draft as the group that it is
 abbrev pub shown : Draft → Group
 shown d = record { fields = map (λ f. f.items) d.fields.items; old = d.before.items; new = d.after.items }
+
+-- the rows of a draft can be counted by a number of 64 bits
+abbrev pub IsCounted : Draft → Type 0
+IsCounted d = length (cells_of (shown d)) < 2 ^ 64
 
 -- lists of groups without field k, and of what stood there: a group is added to the one that it equals, or at the end
 abbrev pub AddsNew : ℕ → Group → List Group → List (List Pattern) → List Group → List (List Pattern) → Type 0

@@ -1,7 +1,7 @@
 //! The rows of an ingress as groups.
-ghost use Rattle.std.specs.Prelude.{◌≡◌, [], ◌∷◌, map, All, IfOk};
-ghost use Rattle.report_groups.specs.Groups.{cells_of, cell_of, patterns_with};
-ghost use Rattle.report_groups.specs.Drafts.{shown, JoinsBelow, Settles};
+ghost use Rattle.std.specs.Prelude.{◌≡◌, ◌<◌, ◌^◌, [], ◌∷◌, map, length, All, IfOk};
+ghost use Rattle.report_groups.specs.Groups.{cells_of, cell_of, choices, patterns_with};
+ghost use Rattle.report_groups.specs.Drafts.{shown, IsCounted, JoinsBelow, Settles};
 ghost use Rattle.report_groups.specs.Entries.{IsEntry, AreEntries};
 
 use crate::change::change_of;
@@ -10,7 +10,7 @@ use crate::joining::join;
 use crate::shown::shown_of;
 use crate::types::{Draft, Entry, Pattern};
 use hdr_bits::Header;
-use net_types::{NoMemory, Row};
+use net_types::{List, NoMemory, Row};
 use std::alloc::Global;
 
 /// The rows of one ingress, joined as far as they can be, each group with what is shown of it.
@@ -28,6 +28,7 @@ pub fn group_rows(alloc: Global, rows: &[Row]) -> Result<Vec<Entry>, NoMemory>
 }
 
 fn finish(alloc: Global, drafts: Vec<Draft>) -> Result<Vec<Entry>, NoMemory>
+    requires { All IsCounted drafts.items }
     ensures groups { IfOk result (λ entries. map (λ e. e.group) entries.items ≡ map shown drafts.items) }
     ensures each { IfOk result (λ entries. All IsEntry entries.items) }
 {
@@ -41,6 +42,7 @@ fn finish(alloc: Global, drafts: Vec<Draft>) -> Result<Vec<Entry>, NoMemory>
 
 // The group of a draft, with what is shown of it.
 fn entry_of(alloc: Global, draft: Draft) -> Result<Entry, NoMemory>
+    requires { IsCounted draft }
     ensures group { IfOk result (λ e. e.group ≡ shown draft) }
     ensures shows { IfOk result IsEntry }
 {
@@ -49,8 +51,26 @@ fn entry_of(alloc: Global, draft: Draft) -> Result<Entry, NoMemory>
     Ok(Entry {
         change: change_of(group.old.as_slice(), group.new.as_slice()),
         shown,
+        rows: count_choices(group.fields.as_slice()),
         group,
     })
+}
+
+// In how many ways one pattern of each field is chosen.
+fn count_choices(fields: &[List<Pattern>]) -> u64
+    requires { length (choices fields.now) < 2 ^ 64 }
+    ensures { result ≡ length (choices fields.now) }
+{
+    match fields {
+        [] => 1,
+        [first, rest @ ..] => {
+            let patterns = first.as_slice();
+            if patterns.is_empty() {
+                return 0;
+            }
+            patterns.len() as u64 * count_choices(rest)
+        }
+    }
 }
 
 // A group for each row.

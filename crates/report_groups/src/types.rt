@@ -41,6 +41,8 @@ pub struct Entry {
     pub change: Change,
     /// Its headers.
     pub shown: Shown,
+    /// The rows that it stands for.
+    pub rows: u64,
     pub group: Group,
 }
 
@@ -49,6 +51,7 @@ impl Drop for Entry {
         let Entry {
             change: _,
             shown: _,
+            rows: _,
             group: _,
         } = self;
     }
@@ -129,17 +132,21 @@ impl Drop for Shown {
     }
 }
 
-/// What a change does to packets.
+/// What a change does to packets, from the most feared to the least.
 #[derive(Clone, Copy, Debug, PartialEq, Eq)]
 pub enum Change {
-    /// They go round in a loop, and didn't.
+    /// They go round in a loop until they expire.
     Loops,
-    /// They are dropped, and weren't.
+    /// They got through, and no longer do.
     Closes,
-    /// They were dropped or went round, and don't.
+    /// They get through now, and didn't.
     Opens,
-    /// They end elsewhere.
-    Moves,
-    /// They end where they did, and other fields are replaced.
+    /// They get through on some of their ways: on some they are lost, in one network only.
+    Sometimes,
+    /// They get through to where they did, with other addresses or ports.
     Translated,
+    /// They get through elsewhere.
+    Moves,
+    /// They go round no more, and get no further than before.
+    LoopGone,
 }

@@ -1,6 +1,6 @@
 //! Reports that are shown.
 
-use crate::runs::{Program, ROOM, put_all, ran, show_run};
+use crate::runs::{Program, ROOM, put_all, show_run};
 use net_io::MemFiles;
 use std::alloc::Global;
 use std::sync::Wait;
@@ -17,16 +17,9 @@ new exit R1 Ethernet1
 affected 2
 ";
 
-const LINKS: &[u8] = b"ingress R1 Ethernet0\n";
-
 fn texts(alloc: Global, report: &[u8]) -> Result<MemFiles, Stop> {
-    let given: [(&str, &[u8]); 3] = [
-        ("report", report),
-        ("links", LINKS),
-        ("wrong", b"! the second line is none\ntouch R1 Ethernet0\n"),
-    ];
     let mut files = MemFiles::new(alloc)?;
-    put_all(&mut files, &given)?;
+    put_all(&mut files, &[("report", report)])?;
     Ok(files)
 }
 
@@ -34,28 +27,24 @@ pub(crate) fn show<R: Threads + Wait + Sync>(rt: &HostRuntime, threads: &R) -> R
     show_words(rt, threads)?;
     show_reports(rt, threads)?;
     show_forms(rt, threads)?;
-    show_page(rt, threads)?;
     show_rooms(rt, threads)?;
     show_faults(rt, threads)
 }
 
 fn show_words<R: Threads + Wait + Sync>(rt: &HostRuntime, threads: &R) -> Result<(), Stop> {
     println!(rt; "== words of a view")?;
-    let cases: [&[&str]; 14] = [
+    let cases: [&[&str]; 11] = [
         &[],
         &["--help"],
         &["--version"],
         &["--help", "report"],
-        &["--html"],
-        &["report", "links"],
-        &["--text", "report"],
+        &["--json"],
+        &["report", "report"],
+        &["--html", "report"],
         &["--title", "report"],
         &["--json", "--title", "old to new", "report"],
-        &["--json", "report", "links"],
         &["none"],
-        &["--csv", "none"],
-        &["--html", "report", "none"],
-        &["--html", "report", "wrong"],
+        &["--json", "none"],
     ];
     let mut files = texts(rt.alloc(), REPORT)?;
     for words in cases {
@@ -100,45 +89,14 @@ fn show_by_bytes<R: Threads + Wait + Sync>(rt: &HostRuntime, threads: &R) -> Res
     show_run(rt, threads, Program::View, &mut files, &["report"], ROOM)
 }
 
-// A title, a document and a table.
+// A title, and a document.
 fn show_forms<R: Threads + Wait + Sync>(rt: &HostRuntime, threads: &R) -> Result<(), Stop> {
     println!(rt; "== other forms")?;
-    let cases: [&[&str]; 3] = [
-        &["--title", "old to new", "report"],
-        &["--json", "report"],
-        &["--csv", "report"],
-    ];
+    let cases: [&[&str]; 2] = [&["--title", "old to new", "report"], &["--json", "report"]];
     let mut files = texts(rt.alloc(), REPORT)?;
     for words in cases {
         show_run(rt, threads, Program::View, &mut files, words, ROOM)?;
     }
-    Ok(())
-}
-
-// Of a page its beginning and its end.
-fn show_page<R: Threads + Wait + Sync>(rt: &HostRuntime, threads: &R) -> Result<(), Stop> {
-    let mut files = texts(rt.alloc(), REPORT)?;
-    for words in [
-        &["--html", "report"][..],
-        &["--html", "report", "links"][..],
-    ] {
-        show_ends(rt, threads, &mut files, words)?;
-    }
-    Ok(())
-}
-
-fn show_ends<R: Threads + Wait + Sync>(
-    rt: &HostRuntime,
-    threads: &R,
-    files: &mut MemFiles,
-    words: &[&str],
-) -> Result<(), Stop> {
-    let ran = ran(rt.alloc(), threads, Program::View, files, words, ROOM)?;
-    let text = ran.out.taken();
-    let begins = text.starts_with(b"<!doctype html>\n");
-    let ends = text.ends_with(b"</html>\n");
-    let status = ran.status;
-    println!(rt; "{words:?}: status {status}, a page: {begins}, whole: {ends}")?;
     Ok(())
 }
 
@@ -151,10 +109,10 @@ fn show_rooms<R: Threads + Wait + Sync>(rt: &HostRuntime, threads: &R) -> Result
     Ok(())
 }
 
-// The calls are two reads of each file.
+// The calls are two reads of the file.
 fn show_faults<R: Threads + Wait + Sync>(rt: &HostRuntime, threads: &R) -> Result<(), Stop> {
     println!(rt; "== a call on the files fails")?;
-    for call in 0..4 {
+    for call in 0..3 {
         let mut files = texts(rt.alloc(), REPORT)?;
         files.fail_at(call);
         show_run(
@@ -162,7 +120,7 @@ fn show_faults<R: Threads + Wait + Sync>(rt: &HostRuntime, threads: &R) -> Resul
             threads,
             Program::View,
             &mut files,
-            &["--html", "report", "links"],
+            &["--json", "report"],
             0,
         )?;
     }

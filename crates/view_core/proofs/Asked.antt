@@ -6,26 +6,25 @@ use Rattle.job_core.specs.declared.report.Report.{Report}
 use Rattle.job_core.specs.declared.stop.Stop.{Stop}
 use Rattle.job_core.specs.declared.stop.Stop.TheVariants as stop
 use Rattle.job_core.specs.Accepted.{MayAlwaysStop}
-use Rattle.job_core.specs.Steps.{GivesLinks}
-use Rattle.job_core.proofs.AcceptedLemmas.{then_may_stop, links_may_stop}
+use Rattle.job_core.proofs.AcceptedLemmas.{then_may_stop}
 use Rattle.view_core.specs.declared.words.Manner.{Manner}
 use Rattle.view_core.specs.Reports.{IsReport, report_limit, UnreadReport, GivesReport}
-use Rattle.view_core.specs.Views.{ReportFails, Views, ViewsWith, Shows, Performs, Says, SaysOr, Does, AcceptedReport, AcceptedTable, AcceptedView, AcceptedOr, IsAccepted}
-use Rattle.view_core.specs.Words.{path_of, links_of, manner_of, said}
+use Rattle.view_core.specs.Views.{ReportFails, Views, Shows, Performs, Says, SaysOr, Does, AcceptedReport, AcceptedView, AcceptedOr, IsAccepted}
+use Rattle.view_core.specs.Words.{path_of, manner_of, said}
 
 -- what is said is what the words ask
 pub does_say : (words : List (List ℕ)) (text : List ℕ) → said words ≡ Some text → (told : Option Told) (r : Result Report Stop) → Says text r → IfSome told (λ t. Does words t r)
 does_say words text e None r h = tt
-does_say words text e (Some t) r h = subst (λ o. SaysOr o (Performs (path_of words) (links_of words) (manner_of words) t) r) (sym e) h
+does_say words text e (Some t) r h = subst (λ o. SaysOr o (Performs (path_of words) (manner_of words) t) r) (sym e) h
 
--- what is shown of the files that the words name is what they ask
-module _ (words : List (List ℕ)) (path : List ℕ) (links : Option (List ℕ)) (m : Manner) (silent : said words ≡ None) (asked : path_of words ≡ Some path) (linked : links ≡ links_of words) (formed : m ≡ manner_of words) where
-  asks : (t : Told) (r : Result Report Stop) → Shows t m path links r → Does words t r
+-- what is shown of the file that the words name is what they ask
+module _ (words : List (List ℕ)) (path : List ℕ) (m : Manner) (silent : said words ≡ None) (asked : path_of words ≡ Some path) (formed : m ≡ manner_of words) where
+  asks : (t : Told) (r : Result Report Stop) → Shows t m path r → Does words t r
   asks t r h =
-      subst (λ o. SaysOr o (Performs (path_of words) (links_of words) (manner_of words) t) r) (sym silent)
-      (subst (λ o. Performs o (links_of words) (manner_of words) t r) (sym asked) (subst (λ o. Shows t (manner_of words) path o r) linked (subst (λ n. Shows t n path links r) formed h)))
+      subst (λ o. SaysOr o (Performs (path_of words) (manner_of words) t) r) (sym silent)
+      (subst (λ o. Performs o (manner_of words) t r) (sym asked) (subst (λ n. Shows t n path r) formed h))
 
-  pub does_view : (told : Option Told) (r : Result Report Stop) → IfSome told (λ t. Shows t m path links r) → IfSome told (λ t. Does words t r)
+  pub does_view : (told : Option Told) (r : Result Report Stop) → IfSome told (λ t. Shows t m path r) → IfSome told (λ t. Does words t r)
   does_view None r h = tt
   does_view (Some t) r h = asks t r h
 
@@ -68,17 +67,13 @@ module _ (t : Told) (m : Manner) (path : List ℕ) (s : Stop) (a : AcceptedRepor
   views_may_stop : (bytes : List ℕ) → content t path ≡ Some bytes → Views m path bytes (Err s) → MayAlwaysStop s
   views_may_stop bytes there fails = report_fails path a.bytes s a.report (subst (λ (b : List ℕ). ReportFails path b s) (some_is (content t path) bytes a.bytes there a.there) fails)
 
-  shows_may_stop : (links : Option (List ℕ)) → AcceptedTable t links → Shows t m path links (Err s) → MayAlwaysStop s
-  shows_may_stop None b h =
+  shows_may_stop : Shows t m path (Err s) → MayAlwaysStop s
+  shows_may_stop h =
       then_may_stop (GivesReport (λ (bs : List ℕ). bs) path (content t path)) (Views m path) s (file_may_stop t path a) (λ bytes given fails. views_may_stop bytes given.0 fails) h
-  shows_may_stop (Some links) b h =
-      then_may_stop (GivesReport (λ (bs : List ℕ). bs) path (content t path)) (ViewsWith t m path links) s (file_may_stop t path a)
-      (λ bytes given next. then_may_stop (GivesLinks t links) (λ table. Views m path bytes) s (links_may_stop t links b) (λ table read fails. views_may_stop bytes given.0 fails) next)
-      h
 
-view_may_stop : (o links : Option (List ℕ)) (m : Manner) (t : Told) (s : Stop) → AcceptedView o links t → Performs o links m t (Err s) → MayAlwaysStop s
-view_may_stop None links m t s a d = absurd a
-view_may_stop (Some path) links m t s a d = shows_may_stop t m path s a.0 links a.1 d
+view_may_stop : (o : Option (List ℕ)) (m : Manner) (t : Told) (s : Stop) → AcceptedView o t → Performs o m t (Err s) → MayAlwaysStop s
+view_may_stop None m t s a d = absurd a
+view_may_stop (Some path) m t s a d = shows_may_stop t m path s a d
 
 says_may_stop : (text : List ℕ) (s : Stop) → Says text (Err s) → MayAlwaysStop s
 says_may_stop text stop.NoMemory h = tt
@@ -89,9 +84,9 @@ says_may_stop text (stop.TooManyFiles p) h = h
 says_may_stop text (stop.HostnameTaken p q) h = h
 says_may_stop text (stop.NotFound p) h = h
 
-some_may_stop : (words : List (List ℕ)) (o : Option (List ℕ)) (t : Told) (s : Stop) → AcceptedOr o (AcceptedView (path_of words) (links_of words) t) → SaysOr o (Performs (path_of words) (links_of words) (manner_of words) t) (Err s) → MayAlwaysStop s
+some_may_stop : (words : List (List ℕ)) (o : Option (List ℕ)) (t : Told) (s : Stop) → AcceptedOr o (AcceptedView (path_of words) t) → SaysOr o (Performs (path_of words) (manner_of words) t) (Err s) → MayAlwaysStop s
 some_may_stop words (Some text) t s a d = says_may_stop text s d
-some_may_stop words None t s a d = view_may_stop (path_of words) (links_of words) (manner_of words) t s a d
+some_may_stop words None t s a d = view_may_stop (path_of words) (manner_of words) t s a d
 
 pub accepted_may_stop : (words : List (List ℕ)) (t : Told) (s : Stop) → IsAccepted words t → Does words t (Err s) → MayAlwaysStop s
 accepted_may_stop words t s a d = some_may_stop words (said words) t s a d

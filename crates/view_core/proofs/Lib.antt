@@ -1,7 +1,7 @@
 pub mod OwnNames
 pub mod Reports
-pub mod Escapes
 pub mod SameLines
 pub mod Asked
-pub mod PageLemmas
 pub mod Joined
+pub mod IngressLemmas
+pub mod TallyLemmas

@@ -1,5 +1,5 @@
--- A report as one document of JSON.
-use Rattle.std.specs.Prelude.{ℕ, ◌/◌, ◌%◌, ◌==◌, ◌||◌, List, [], ◌∷◌, ◌++◌, Option, Some, None, codes, decimal, nat_lt, if◌then◌else◌}
+-- What documents of JSON are made of.
+use Rattle.std.specs.Prelude.{ℕ, ◌+◌, ◌/◌, ◌%◌, ◌==◌, ◌||◌, List, [], ◌∷◌, ◌++◌, Option, Some, None, codes, decimal, nat_lt, if◌then◌else◌}
 use Rattle.std.specs.List.{flat_map, join_by}
 use Rattle.hdr_bits.specs.declared.cube.Cube.{Cube}
 use Rattle.hdr_bits.specs.declared.header.Header.{Header}
@@ -9,12 +9,14 @@ use Rattle.net_types.specs.declared.label.Outcome.TheVariants.{Dropped, Expired,
 use Rattle.net_types.specs.declared.network.Names.{Names}
 use Rattle.net_types.specs.declared.network.Place.{Place}
 use Rattle.net_types.specs.declared.network.Row.{Row}
-use Rattle.net_types.specs.declared.network.Section.{Section}
 use Rattle.report_text.specs.FieldText.{address_text, address_field_text, number_field_text}
-use Rattle.report_text.specs.ReportText.{name_text, row_count}
-use Rattle.view_core.specs.Escape.{hex_digit}
+use Rattle.report_text.specs.ReportText.{name_text}
 
 -- ---- strings
+
+-- a hexadecimal digit
+abbrev pub hex_digit : ℕ → ℕ
+hex_digit d = if nat_lt d 10 then 48 + d else 87 + d
 
 -- A byte of a string: the quote and the backslash behind a backslash, and what is no printable character of ASCII by its number, so
 -- that a byte is the character of that number
@@ -106,24 +108,3 @@ port_members h = codes ", \"dport\": " ++ decimal h.dport ++ codes ", \"sport\":
 -- the fields of a header
 unfoldable pub header_members : Header → List ℕ
 header_members h = address_members h ++ port_members h
-
--- ---- sections, and the document
-
-unfoldable pub section_text : Names → Section → List ℕ
-section_text names s =
-    codes "{" ++ place_members names s.place ++ codes ", " ++ key (codes "rows") ++ codes "["
-    ++ join_by (row_text names) (codes ",\n") s.rows
-    ++ codes "]}"
-
--- the schema with its version, up to the number of all rows
-abbrev pub json_head : List ℕ
-json_head =
-    codes "{" ++ key (codes "schema") ++ quote ++ codes "diqenyu-report" ++ quote ++ codes ", " ++ key (codes "version") ++ codes "1, " ++ key (codes "affected")
-
--- behind that number
-abbrev pub json_middle : List ℕ
-json_middle = codes ",\n" ++ key (codes "ingresses") ++ codes "["
-
--- the schema, the number of all rows, and the ingresses with their rows
-unfoldable pub json_text : Names → List Section → List ℕ
-json_text names sections = json_head ++ decimal (row_count sections) ++ json_middle ++ join_by (section_text names) (codes ",\n") sections ++ codes "]}\n"

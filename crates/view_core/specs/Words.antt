@@ -1,5 +1,5 @@
 -- What the words of the command line ask.
-use Rattle.std.specs.Prelude.{ℕ, Bool, true, false, ◌&&◌, ◌||◌, List, [], ◌∷◌, Option, Some, None, unwrap_or, is_some, codes, if◌then◌else◌}
+use Rattle.std.specs.Prelude.{ℕ, Bool, true, false, ◌||◌, List, [], ◌∷◌, Option, Some, None, unwrap_or, is_some, codes, if◌then◌else◌}
 use Rattle.std.specs.Str.{bytes_eq}
 use Rattle.view_words.specs.Usage.{is_operand, usage_text, version_text}
 use Rattle.view_core.specs.declared.words.Format.{Format}
@@ -9,9 +9,7 @@ use Rattle.view_core.specs.declared.words.Manner.{Manner}
 -- the format that an option asks for
 abbrev pub format_named : List ℕ → Option Format
 format_named word =
-    if bytes_eq word (codes "--html") then Some format.Page
-    else (if bytes_eq word (codes "--json") then Some format.Json
-    else (if bytes_eq word (codes "--csv") then Some format.Csv else None))
+    if bytes_eq word (codes "--json") then Some format.Json else None
 
 -- the format that the first word asks for, and else text
 abbrev pub format_of : List (List ℕ) → Format
@@ -22,12 +20,10 @@ abbrev pub behind_format : List (List ℕ) → List (List ℕ)
 behind_format [] = []
 behind_format (word ∷ words) = if is_some (format_named word) then words else word ∷ words
 
--- a text and a page may have a title
+-- a text may have a title
 abbrev pub has_title : Format → Bool
 has_title format.Text = true
-has_title format.Page = true
 has_title format.Json = false
-has_title format.Csv = false
 
 abbrev pub is_title : List ℕ → Bool
 is_title word = bytes_eq word (codes "--title")
@@ -48,26 +44,13 @@ paths_of words = if has_title (format_of words) then behind_title (behind_format
 abbrev pub title_of : List (List ℕ) → List ℕ
 title_of words = if has_title (format_of words) then title_in (behind_format words) else []
 
--- a page may have a picture of the network
-abbrev pub takes_links : Format → Bool
-takes_links format.Page = true
-takes_links _ = false
-
--- the path of the report, behind which that of a link table may stand for a page
-abbrev pub path_in : Bool → List (List ℕ) → Option (List ℕ)
-path_in linked (path ∷ []) = if is_operand path then Some path else None
-path_in linked (path ∷ links ∷ []) = if (linked && is_operand links) && is_operand path then Some path else None
-path_in linked _ = None
+-- the path of the report
+abbrev pub path_in : List (List ℕ) → Option (List ℕ)
+path_in (path ∷ []) = if is_operand path then Some path else None
+path_in _ = None
 
 abbrev pub path_of : List (List ℕ) → Option (List ℕ)
-path_of words = path_in (takes_links (format_of words)) (paths_of words)
-
-abbrev pub links_in : List (List ℕ) → Option (List ℕ)
-links_in (path ∷ links ∷ []) = Some links
-links_in _ = None
-
-abbrev pub links_of : List (List ℕ) → Option (List ℕ)
-links_of words = links_in (paths_of words)
+path_of words = path_in (paths_of words)
 
 -- in which form the report is shown, and with which title
 abbrev pub manner_of : List (List ℕ) → Manner

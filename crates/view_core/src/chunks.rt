@@ -1,9 +1,8 @@
 //! Texts that are added in one call.
 ghost use Rattle.std.specs.Prelude.{◌≡◌, ◌++◌, OnOk};
 ghost use Rattle.std.specs.List.{flat_map};
-ghost use Rattle.view_core.specs.Chunks.{chunk_text};
+ghost use Rattle.view_core.specs.Chunks.{chunk_text, count_text};
 
-use crate::csv::append_quoted;
 use crate::json::append_string;
 use net_types::NoMemory;
 use report_text::{append, append_number};
@@ -14,8 +13,6 @@ pub(crate) enum Chunk<'a> {
     Bytes(&'a [u8]),
     /// A number in decimal.
     Number(u64),
-    /// A part of a line of a table, in quotes.
-    Quoted(&'a [u8]),
     /// A string of JSON.
     String(&'a [u8]),
 }
@@ -36,7 +33,6 @@ fn append_chunk(out: &mut Vec<u8>, chunk: &Chunk) -> Result<(), NoMemory>
     match *chunk {
         Chunk::Bytes(bytes) => append(out, bytes),
         Chunk::Number(number) => append_number(out, number),
-        Chunk::Quoted(text) => append_quoted(out, text),
         Chunk::String(text) => append_string(out, text),
     }
 }
@@ -49,4 +45,12 @@ pub(crate) fn append_texts(out: &mut Vec<u8>, texts: &[&[u8]]) -> Result<(), NoM
         append(out, text)?;
     }
     Ok(())
+}
+
+/// Adds a number behind its words, likewise.
+pub(crate) fn append_count(out: &mut Vec<u8>, front: &[u8], number: u128) -> Result<(), NoMemory>
+    ensures { OnOk result (out.new.items ≡ out.old.items ++ count_text front.now number) }
+{
+    append(out, front)?;
+    append_number(out, number)
 }

@@ -27,9 +27,10 @@ pub(crate) enum Kind {
     Message,
 }
 
-/// The fields of a group that aren't open, each behind its name with two blanks before it; or that any header is in it.
+/// The fields of a group that aren't open, each behind its name with two blanks before it; or that any header is in it. Where memory
+/// runs out, a part of them may stand there.
 #[tactic(auto, unfolding(crate::specs::FieldWords::words_text))]
-pub(crate) fn append_fields(alloc: Global, out: &mut Vec<u8>, shown: &Shown) -> Result<(), NoMemory>
+pub fn append_fields(alloc: Global, out: &mut Vec<u8>, shown: &Shown) -> Result<(), NoMemory>
     ensures { OnOk result (out.new.items ≡ out.old.items ++ words_text shown.now) }
 {
     let mut words = Vec::new(alloc);

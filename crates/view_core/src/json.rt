@@ -1,97 +1,18 @@
-//! A report as one document of JSON. Text of the report stands in it as `append_string` writes it, and nowhere else.
-ghost use Rattle.std.specs.Prelude.{◌≡◌, ◌++◌, ◌≤◌, codes, IfOk, OnOk};
+//! What documents of JSON are made of. Text of a report stands in them as `append_string` writes it, and nowhere else.
+ghost use Rattle.std.specs.Prelude.{◌≡◌, ◌++◌, ◌≤◌, ◌<◌, codes, OnOk};
 ghost use Rattle.std.specs.List.{flat_map, join_by};
 ghost use Rattle.report_text.specs.FieldText.{address_text, address_field_text, number_field_text};
-ghost use Rattle.report_text.specs.ReportText.{row_count};
-ghost use Rattle.view_core.specs.Json.{string_byte, string_text, string_member, place_members, address_change, port_change, outcome_members, outcome_text, outcomes_text, cube_members, fields_members, row_text, section_text, json_text};
+ghost use Rattle.view_core.specs.Json.{string_byte, string_text, string_member, place_members, address_change, port_change, outcome_members, outcome_text, outcomes_text, cube_members, fields_members, row_text, hex_digit};
 
 use crate::chunks::{Chunk, append_chunks, append_texts};
-use crate::escape::hex_digit;
 use crate::field_text::{address_field_bytes, number_field_bytes};
 use hdr_bits::{Cube, Header};
-use net_types::{Label, Names, NoMemory, Outcome, Place, Row, Section};
-use report_text::{address_bytes, append, append_number, name_of};
+use net_types::{Label, Names, NoMemory, Outcome, Place, Row};
+use report_text::{address_bytes, append, name_of};
 use std::alloc::Global;
 
-/// The document of a report: exactly its sections and their rows, with the names of devices and interfaces.
-pub(crate) fn json_bytes(
-    alloc: Global,
-    names: &Names,
-    sections: &[Section],
-) -> Result<Vec<u8>, NoMemory>
-    ensures { IfOk result (λ text. text.items ≡ json_text names.now sections.now) }
-{
-    let mut out = Vec::new(alloc);
-    append_document(alloc, &mut out, names, sections)?;
-    Ok(out)
-}
-
-#[tactic(auto, unfolding(crate::specs::Json::json_text))]
-fn append_document(
-    alloc: Global,
-    out: &mut Vec<u8>,
-    names: &Names,
-    sections: &[Section],
-) -> Result<(), NoMemory>
-    ensures { OnOk result (out.new.items ≡ out.old.items ++ json_text names.now sections.now) }
-{
-    append(
-        out,
-        b"{\"schema\": \"diqenyu-report\", \"version\": 1, \"affected\": ",
-    )?;
-    append_number(out, row_count(sections))?;
-    append(out, b",\n\"ingresses\": [")?;
-    append_sections(alloc, out, names, sections)?;
-    append(out, b"]}\n")?;
-    Ok(())
-}
-
-fn row_count(sections: &[Section]) -> u128
-    ensures { result ≡ row_count sections.now }
-{
-    let mut rows: u128 = 0;
-    for section in sections {
-        rows += section.rows.as_slice().len() as u128;
-    }
-    rows
-}
-
-fn append_sections(
-    alloc: Global,
-    out: &mut Vec<u8>,
-    names: &Names,
-    sections: &[Section],
-) -> Result<(), NoMemory>
-    ensures { OnOk result (out.new.items ≡ out.old.items ++ join_by (section_text names.now) (codes ",\n") sections.now) }
-{
-    let [first, rest @ ..] = sections else {
-        return Ok(());
-    };
-    append_section(alloc, out, names, first)?;
-    for section in rest {
-        append(out, b",\n")?;
-        append_section(alloc, out, names, section)?;
-    }
-    Ok(())
-}
-
-#[tactic(auto, unfolding(crate::specs::Json::section_text))]
-fn append_section(
-    alloc: Global,
-    out: &mut Vec<u8>,
-    names: &Names,
-    section: &Section,
-) -> Result<(), NoMemory>
-    ensures { OnOk result (out.new.items ≡ out.old.items ++ section_text names.now section.now) }
-{
-    append(out, b"{")?;
-    append_place_members(out, names, section.place)?;
-    append(out, b", \"rows\": [")?;
-    append_rows(alloc, out, names, section.rows.as_slice())?;
-    append(out, b"]}")
-}
-
-fn append_rows(
+/// The rows of an ingress. Where memory runs out, a part of them may stand there, here and below.
+pub(crate) fn append_rows(
     alloc: Global,
     out: &mut Vec<u8>,
     names: &Names,
@@ -117,9 +38,9 @@ fn append_row(alloc: Global, out: &mut Vec<u8>, names: &Names, row: &Row) -> Res
     append(out, b"{")?;
     append_cube(alloc, out, &row.cube)?;
     append(out, b", \"old\": ")?;
-    append_outcomes(alloc, out, names, &row.old)?;
+    append_label(alloc, out, names, &row.old)?;
     append(out, b", \"new\": ")?;
-    append_outcomes(alloc, out, names, &row.new)?;
+    append_label(alloc, out, names, &row.new)?;
     append(out, b"}")
 }
 
@@ -211,7 +132,7 @@ fn append_number_field(
     append_member(out, name, &text)
 }
 
-fn append_outcomes(
+fn append_label(
     alloc: Global,
     out: &mut Vec<u8>,
     names: &Names,
@@ -219,8 +140,20 @@ fn append_outcomes(
 ) -> Result<(), NoMemory>
     ensures { OnOk result (out.new.items ≡ out.old.items ++ outcomes_text names.now outcomes.now) }
 {
+    append_outcomes_array(alloc, out, names, outcomes.as_slice())
+}
+
+/// Adds outcomes as an array.
+pub(crate) fn append_outcomes_array(
+    alloc: Global,
+    out: &mut Vec<u8>,
+    names: &Names,
+    outcomes: &[Outcome],
+) -> Result<(), NoMemory>
+    ensures { OnOk result (out.new.items ≡ out.old.items ++ outcomes_text names.now outcomes.now) }
+{
     append(out, b"[")?;
-    append_listed(alloc, out, names, outcomes.as_slice())?;
+    append_listed(alloc, out, names, outcomes)?;
     append(out, b"]")
 }
 
@@ -414,4 +347,12 @@ fn append_string_byte(out: &mut Vec<u8>, b: u8) -> Result<(), NoMemory>
     } else {
         append(out, &[b])
     }
+}
+
+// A hexadecimal digit.
+fn hex_digit(d: u8) -> u8
+    requires { d < 16 }
+    ensures { result ≡ hex_digit d }
+{
+    if d < 10 { 48 + d } else { 87 + d }
 }

@@ -1,77 +1,50 @@
 //! A report as text for a person.
-ghost use Rattle.std.specs.Prelude.{◌≡◌, ◌++◌, length, IfOk, OnOk};
+ghost use Rattle.std.specs.Prelude.{◌≡◌, ◌++◌, length, map, flat_map, IfOk, OnOk};
+ghost use Rattle.report_groups.specs.declared.types.Change.TheVariants as change;
 ghost use Rattle.report_text.specs.ReportText.{label_text};
-ghost use Rattle.view_core.specs.Groups.{change_words, headers_text, group_words, group_text};
-ghost use Rattle.view_core.specs.Views.{HasFront, title_line, summary_head};
+ghost use Rattle.view_core.specs.Groups.{headers_text, group_words, group_text};
+ghost use Rattle.view_core.specs.Kinds.{of_kind};
+ghost use Rattle.view_core.specs.ViewText.{title_line, summary_head, loop_line, ingress_loops, loops_text, sizes_text, heading_end, heading_text, group_line, ingress_text, view_text};
 
-use crate::chunks::{Chunk, append_chunks, append_texts};
+use crate::chunks::{append_count, append_texts};
 use crate::fields::append_fields;
-use crate::summary::{Counts, append_changes, append_outcome_counts, count_change};
-use net_types::{List, Names, NoMemory, Outcome, Place, Section, Text};
-use report_groups::{Change, Entry, group_rows};
-use report_text::{append, append_number, name_of, outcome_bytes};
+use crate::ingresses::{Ingress, is_untouched};
+use crate::kinds::{in_order, is_of_kind};
+use crate::summary::{append_summary, change_name};
+use net_types::{List, Names, NoMemory, Outcome};
+use report_groups::{Change, Entry};
+use report_text::{append, append_place, outcome_bytes};
 use std::alloc::Global;
 
-/// The kinds of changes in the order in which they are shown.
-pub(crate) const ORDER: [Change; 5] = [
-    Change::Loops,
-    Change::Closes,
-    Change::Opens,
-    Change::Moves,
-    Change::Translated,
-];
-
-/// What a kind of change is called.
-pub(crate) fn change_name(change: Change) -> &'static [u8]
-    ensures { result.now ≡ change_words change }
-{
-    match change {
-        Change::Loops => b"loops",
-        Change::Closes => b"closes",
-        Change::Opens => b"opens",
-        Change::Moves => b"moves",
-        Change::Translated => b"translated otherwise",
-    }
-}
-
-/// The report as text: its title where there is one, a summary, all loops, and for each ingress its groups.
+/// The report as text: its title where there is one, a summary, all loops, and each ingress with its groups.
 pub(crate) fn view_bytes(
     alloc: Global,
+    title: &[u8],
     names: &Names,
-    sections: &[Section],
-    title: &Text,
+    ingresses: &[Ingress],
 ) -> Result<Vec<u8>, NoMemory>
-    ensures { IfOk result (λ text. HasFront (title_line title.now ++ summary_head (length sections.now)) text.items) }
+    ensures { IfOk result (λ text. text.items ≡ view_text title.now names.now ingresses.now) }
 {
-    let mut parts = Vec::new(alloc);
-    append_parts_of(alloc, &mut parts, names, sections)?;
     let mut text = Vec::new(alloc);
-    append_view(&mut text, title.as_bytes(), sections.len(), &parts)?;
+    append_view(alloc, &mut text, title, names, ingresses)?;
     Ok(text)
 }
 
-// The title, how many ingresses there are, and what stands behind that.
+#[tactic(auto, unfolding(crate::specs::ViewText::view_text))]
 fn append_view(
+    alloc: Global,
     out: &mut Vec<u8>,
     title: &[u8],
-    ingresses: usize,
-    parts: &[u8],
+    names: &Names,
+    ingresses: &[Ingress],
 ) -> Result<(), NoMemory>
-    ensures { OnOk result (out.new.items ≡ out.old.items ++ ((title_line title.now ++ summary_head ingresses) ++ parts.now)) }
+    ensures { OnOk result (out.new.items ≡ out.old.items ++ view_text title.now names.now ingresses.now) }
 {
     append_title(out, title)?;
-    append_ingresses(out, ingresses)?;
-    append(out, parts)?;
-    Ok(())
-}
-
-fn append_ingresses(out: &mut Vec<u8>, ingresses: usize) -> Result<(), NoMemory>
-    ensures { OnOk result (out.new.items ≡ out.old.items ++ summary_head ingresses) }
-{
-    append(out, b"summary: ingresses ")?;
-    append_number(out, ingresses)?;
-    append(out, b"\n")?;
-    Ok(())
+    append_head(out, ingresses.len())?;
+    append_summary(alloc, out, names, ingresses)?;
+    append_loops(alloc, out, names, ingresses)?;
+    append_ingresses(alloc, out, names, ingresses)
 }
 
 fn append_title(out: &mut Vec<u8>, title: &[u8]) -> Result<(), NoMemory>
@@ -83,234 +56,157 @@ fn append_title(out: &mut Vec<u8>, title: &[u8]) -> Result<(), NoMemory>
     append_texts(out, &[title, b"\n"])
 }
 
-// What is written of the ingresses: their lines in the summary, all loops, and their groups.
-struct Parts {
-    counts: Counts,
-    places: Vec<u8>,
-    loops: Vec<u8>,
-    groups: Vec<u8>,
-    untouched: u64,
-}
-
-impl Drop for Parts {
-    fn drop(self) {
-        let Parts {
-            counts: _,
-            places: _,
-            loops: _,
-            groups: _,
-            untouched: _,
-        } = self;
-    }
-}
-
-// What stands behind the head.
-fn append_parts_of(
-    alloc: Global,
-    out: &mut Vec<u8>,
-    names: &Names,
-    sections: &[Section],
-) -> Result<(), NoMemory> {
-    let mut parts = Parts {
-        counts: Counts::new(alloc),
-        places: Vec::new(alloc),
-        loops: Vec::new(alloc),
-        groups: Vec::new(alloc),
-        untouched: 0,
-    };
-    add_sections(alloc, &mut parts, names, sections)?;
-    append_parts(out, &parts, sections.len())
-}
-
-fn add_sections(
-    alloc: Global,
-    parts: &mut Parts,
-    names: &Names,
-    sections: &[Section],
-) -> Result<(), NoMemory> {
-    for section in sections {
-        add_section(alloc, parts, names, section)?;
-    }
-    parts.counts.sort()
-}
-
-fn append_parts(out: &mut Vec<u8>, parts: &Parts, ingresses: usize) -> Result<(), NoMemory> {
-    append_summary(out, parts, ingresses)?;
-    if !parts.loops.is_empty() {
-        append_texts(out, &[b"loops\n", &parts.loops, b"\n"])?;
-    }
-    append(out, &parts.groups)
-}
-
-// The counts by kind of change and by ingress, how many ingresses are untouched, and the counts by outcome.
-fn append_summary(out: &mut Vec<u8>, parts: &Parts, ingresses: usize) -> Result<(), NoMemory> {
-    if parts.untouched == ingresses as u64 {
-        return append_chunks(
-            out,
-            &[
-                Chunk::Bytes(b"  no packet is treated differently at any of "),
-                Chunk::Number(ingresses as u64),
-                Chunk::Bytes(b" ingresses\n\n"),
-            ],
-        );
-    }
-    append_changes(out, &parts.counts.changes)?;
-    append(out, &parts.places)?;
-    if parts.untouched > 0 {
-        append_chunks(
-            out,
-            &[
-                Chunk::Bytes(b"  nothing changes at "),
-                Chunk::Number(parts.untouched),
-                Chunk::Bytes(b" of "),
-                Chunk::Number(ingresses as u64),
-                Chunk::Bytes(b" ingresses\n"),
-            ],
-        )?;
-    }
-    append_outcome_counts(out, &parts.counts)?;
+fn append_head(out: &mut Vec<u8>, ingresses: usize) -> Result<(), NoMemory>
+    ensures { OnOk result (out.new.items ≡ out.old.items ++ summary_head ingresses) }
+{
+    append_count(out, b"summary: ingresses ", ingresses as u128)?;
     append(out, b"\n")
 }
 
-// Adds the groups of an ingress.
-fn add_section(
+fn append_loops(
     alloc: Global,
-    parts: &mut Parts,
-    names: &Names,
-    section: &Section,
-) -> Result<(), NoMemory> {
-    let entries = group_rows(alloc, section.rows.as_slice())?;
-    add_entries(alloc, parts, names, section, &entries)
-}
-
-fn add_entries(
-    alloc: Global,
-    parts: &mut Parts,
-    names: &Names,
-    section: &Section,
-    entries: &[Entry],
-) -> Result<(), NoMemory> {
-    let rows = section.rows.as_slice().len();
-    let mut kinds = [0; 5];
-    append_heading(&mut parts.groups, names, section.place, rows, entries.len())?;
-    for change in &ORDER {
-        for entry in entries {
-            if entry.change == *change {
-                count_change(&mut kinds, *change);
-                add_entry(alloc, parts, names, section.place, entry)?;
-            }
-        }
-    }
-    append(&mut parts.groups, b"\n")?;
-    add_place(parts, names, section, &kinds)
-}
-
-fn add_entry(
-    alloc: Global,
-    parts: &mut Parts,
-    names: &Names,
-    place: Place,
-    entry: &Entry,
-) -> Result<(), NoMemory> {
-    append_entry(alloc, &mut parts.groups, names, entry)?;
-    parts.counts.add(alloc, names, entry)?;
-    add_loop(alloc, &mut parts.loops, names, place, entry)
-}
-
-// The line of an ingress in the summary.
-fn add_place(
-    parts: &mut Parts,
-    names: &Names,
-    section: &Section,
-    kinds: &[u64; 5],
-) -> Result<(), NoMemory> {
-    let rows = section.rows.as_slice().len();
-    if rows == 0 {
-        parts.untouched = parts.untouched.saturating_add(1);
-        return Ok(());
-    }
-    append_named(&mut parts.places, b"  ingress ", names, section.place)?;
-    append(&mut parts.places, b": ")?;
-    for k in 0..5 {
-        if kinds[k] > 0 {
-            append_chunks(
-                &mut parts.places,
-                &[
-                    Chunk::Bytes(change_name(ORDER[k])),
-                    Chunk::Bytes(b" "),
-                    Chunk::Number(kinds[k]),
-                    Chunk::Bytes(b", "),
-                ],
-            )?;
-        }
-    }
-    append_chunks(
-        &mut parts.places,
-        &[
-            Chunk::Bytes(b"rows "),
-            Chunk::Number(rows as u64),
-            Chunk::Bytes(b"\n"),
-        ],
-    )
-}
-
-// A loop behind its ingress.
-fn add_loop(
-    alloc: Global,
-    loops: &mut Vec<u8>,
-    names: &Names,
-    place: Place,
-    entry: &Entry,
-) -> Result<(), NoMemory> {
-    if entry.change != Change::Loops {
-        return Ok(());
-    }
-    append_named(loops, b"  ingress ", names, place)?;
-    append_headers(alloc, loops, names, entry)?;
-    append(loops, b"\n")
-}
-
-fn append_heading(
     out: &mut Vec<u8>,
     names: &Names,
-    place: Place,
-    rows: usize,
-    groups: usize,
-) -> Result<(), NoMemory> {
-    append_named(out, b"ingress ", names, place)?;
-    if rows == 0 {
+    ingresses: &[Ingress],
+) -> Result<(), NoMemory>
+    ensures { OnOk result (out.new.items ≡ out.old.items ++ loops_text names.now ingresses.now) }
+{
+    let mut lines = Vec::new(alloc);
+    append_loop_lines(alloc, &mut lines, names, ingresses)?;
+    if lines.is_empty() {
+        return Ok(());
+    }
+    append_texts(out, &[b"loops\n", &lines, b"\n"])
+}
+
+fn append_loop_lines(
+    alloc: Global,
+    out: &mut Vec<u8>,
+    names: &Names,
+    ingresses: &[Ingress],
+) -> Result<(), NoMemory>
+    ensures { OnOk result (out.new.items ≡ out.old.items ++ flat_map (ingress_loops names.now) ingresses.now) }
+{
+    for ingress in ingresses {
+        append_loops_at(alloc, out, names, ingress)?;
+    }
+    Ok(())
+}
+
+fn append_loops_at(
+    alloc: Global,
+    out: &mut Vec<u8>,
+    names: &Names,
+    ingress: &Ingress,
+) -> Result<(), NoMemory>
+    ensures { OnOk result (out.new.items ≡ out.old.items ++ ingress_loops names.now ingress.now) }
+{
+    let groups = ingress.groups.as_slice();
+    for entry in groups {
+        if is_of_kind(Change::Loops, entry) {
+            append_loop_line(alloc, out, names, ingress, entry)?;
+        }
+    }
+    Ok(())
+}
+
+#[tactic(auto, unfolding(crate::specs::ViewText::loop_line))]
+fn append_loop_line(
+    alloc: Global,
+    out: &mut Vec<u8>,
+    names: &Names,
+    ingress: &Ingress,
+    entry: &Entry,
+) -> Result<(), NoMemory>
+    ensures { OnOk result (out.new.items ≡ out.old.items ++ loop_line names.now ingress.now entry.now) }
+{
+    append(out, b"  ingress ")?;
+    append_place(out, names, ingress.section.place)?;
+    append_headers(alloc, out, names, entry)?;
+    append(out, b"\n")
+}
+
+fn append_ingresses(
+    alloc: Global,
+    out: &mut Vec<u8>,
+    names: &Names,
+    ingresses: &[Ingress],
+) -> Result<(), NoMemory>
+    ensures { OnOk result (out.new.items ≡ out.old.items ++ flat_map (ingress_text names.now) ingresses.now) }
+{
+    for ingress in ingresses {
+        append_ingress(alloc, out, names, ingress)?;
+    }
+    Ok(())
+}
+
+#[tactic(auto, unfolding(crate::specs::ViewText::ingress_text))]
+fn append_ingress(
+    alloc: Global,
+    out: &mut Vec<u8>,
+    names: &Names,
+    ingress: &Ingress,
+) -> Result<(), NoMemory>
+    ensures { OnOk result (out.new.items ≡ out.old.items ++ ingress_text names.now ingress.now) }
+{
+    let groups = in_order(alloc, ingress.groups.as_slice())?;
+    append_heading(out, names, ingress)?;
+    append_groups(alloc, out, names, &groups)?;
+    append(out, b"\n")
+}
+
+fn append_heading(out: &mut Vec<u8>, names: &Names, ingress: &Ingress) -> Result<(), NoMemory>
+    ensures { OnOk result (out.new.items ≡ out.old.items ++ heading_text names.now ingress.now) }
+{
+    append(out, b"ingress ")?;
+    append_place(out, names, ingress.section.place)?;
+    append_heading_end(out, ingress)
+}
+
+fn append_heading_end(out: &mut Vec<u8>, ingress: &Ingress) -> Result<(), NoMemory>
+    ensures { OnOk result (out.new.items ≡ out.old.items ++ heading_end ingress.now) }
+{
+    if is_untouched(ingress) {
         return append(out, b": nothing changes\n");
     }
-    append_chunks(
+    append_sizes(
         out,
-        &[
-            Chunk::Bytes(b": rows "),
-            Chunk::Number(rows as u64),
-            Chunk::Bytes(b", groups "),
-            Chunk::Number(groups as u64),
-            Chunk::Bytes(b"\n"),
-        ],
+        ingress.section.rows.as_slice().len(),
+        ingress.groups.as_slice().len(),
     )
 }
 
-/// The names of a place behind some words.
-pub(crate) fn append_named<'p>(
+fn append_sizes(out: &mut Vec<u8>, rows: usize, groups: usize) -> Result<(), NoMemory>
+    ensures { OnOk result (out.new.items ≡ out.old.items ++ sizes_text rows groups) }
+{
+    append_count(out, b": rows ", rows as u128)?;
+    append_count(out, b", groups ", groups as u128)?;
+    append(out, b"\n")
+}
+
+fn append_groups(
+    alloc: Global,
     out: &mut Vec<u8>,
-    words: &'p [u8],
-    names: &'p Names,
-    place: Place,
-) -> Result<(), NoMemory> {
-    let device = name_of(names, place.device);
-    append_texts(out, &[words, device, b" ", name_of(names, place.interface)])
+    names: &Names,
+    groups: &[&Entry],
+) -> Result<(), NoMemory>
+    ensures { OnOk result (out.new.items ≡ out.old.items ++ flat_map (group_line names.now) (map (λ e. e.now) groups.now)) }
+{
+    for group in groups {
+        append_group(alloc, out, names, *group)?;
+    }
+    Ok(())
 }
 
 // One line: the change, the headers, and the outcomes.
-fn append_entry(
+fn append_group(
     alloc: Global,
     out: &mut Vec<u8>,
     names: &Names,
     entry: &Entry,
-) -> Result<(), NoMemory> {
+) -> Result<(), NoMemory>
+    ensures { OnOk result (out.new.items ≡ out.old.items ++ group_line names.now entry.now) }
+{
     let line = group_bytes(alloc, names, entry)?;
     append_texts(out, &[b"  ", &line])
 }

@@ -1,23 +1,21 @@
 //! The view as one call.
 
-ghost use Rattle.std.specs.Prelude.{◌≡◌, ◌≢◌, None, Some, true, false, IfSome, IfOk, IfErr, map, string_bytes, option_map, length};
+ghost use Rattle.std.specs.Prelude.{◌≡◌, ◌≢◌, true, false, IfSome, IfOk, IfErr, map, string_bytes};
 ghost use Rattle.job_core.specs.Causes.{HasCause, WasRead};
 ghost use Rattle.job_core.specs.Endings.{Ends};
 ghost use Rattle.view_words.specs.Usage.{usage_text};
-ghost use Rattle.view_core.specs.Views.{IsView, Views, ViewsWith, Shows, Says, Does, IsAccepted};
+ghost use Rattle.view_core.specs.Views.{IsView, Views, Shows, Says, Does, IsAccepted, shown_as};
 ghost use Rattle.view_core.specs.Words.{is_asked};
 
-use crate::csv::csv_bytes;
-use crate::json::json_bytes;
-use crate::page::page_bytes;
-use crate::reading::{read_report_file, report_in};
+use crate::ingresses::{Ingress, ingresses_of};
+use crate::reading::{Reported, read_report_file, report_in};
+use crate::report_json::json_bytes;
 use crate::text::view_bytes;
-use crate::words::{Format, Manner, is_asked, links_of, manner_of, path_of, said};
-use job_core::{Report, Stop, finish, read_links_file, refuse};
+use crate::words::{Format, Manner, is_asked, manner_of, path_of, said};
+use job_core::{Report, Stop, finish, refuse};
 use net_io::{Files, Sink};
-use net_types::{Names, NoMemory, Section};
+use net_types::{Names, NoMemory};
 use std::alloc::Global;
-use topo_links::LinkTable;
 use view_words::USAGE;
 
 /// Does what the words ask, and answers the status: 0 where it was written, and else as every program of the house.
@@ -63,7 +61,7 @@ fn perform<F: Files>(alloc: Global, files: &mut F, words: &[String]) -> Result<R
         Ok(manner) => manner,
         Err(_) => return Err(Stop::NoMemory),
     };
-    show(alloc, files, path, links_of(words), &manner)
+    show(alloc, files, path, &manner)
 }
 
 fn says(alloc: Global, text: &[u8]) -> Result<Report, Stop>
@@ -80,91 +78,27 @@ fn says(alloc: Global, text: &[u8]) -> Result<Report, Stop>
     }
 }
 
-// The view of the report at a path, or its page with the links at another.
-fn show<F: Files>(
-    alloc: Global,
-    files: &mut F,
-    path: &str,
-    links: Option<&str>,
-    manner: &Manner,
-) -> Result<Report, Stop>
-    ensures shows { IfSome (F.told files.old) (λ t. Shows t manner.now path.now (option_map (λ p. p.now) links.entry) result) }
-    ensures plain { IfOk result (λ r. r.affected ≡ false) }
-    ensures cause { HasCause (F.faults files.old) (F.faults files.new) result }
-{
-    match links {
-        None => show_alone(alloc, files, path, manner),
-        Some(links) => show_with(alloc, files, path, links, manner),
-    }
-}
-
-fn show_alone<F: Files>(
-    alloc: Global,
-    files: &mut F,
-    path: &str,
-    manner: &Manner,
-) -> Result<Report, Stop>
-    ensures shows { IfSome (F.told files.old) (λ t. Shows t manner.now path.now None result) }
+// The view of the report at a path.
+fn show<F: Files>(alloc: Global, files: &mut F, path: &str, manner: &Manner) -> Result<Report, Stop>
+    ensures shows { IfSome (F.told files.old) (λ t. Shows t manner.now path.now result) }
     ensures plain { IfOk result (λ r. r.affected ≡ false) }
     ensures cause { HasCause (F.faults files.old) (F.faults files.new) result }
 {
     match read_report_file(alloc, files, path) {
-        Ok(bytes) => view_of(alloc, path, &bytes, &None, manner),
-        Err(stop) => Err(stop),
-    }
-}
-
-fn show_with<F: Files>(
-    alloc: Global,
-    files: &mut F,
-    path: &str,
-    links: &str,
-    manner: &Manner,
-) -> Result<Report, Stop>
-    ensures shows { IfSome (F.told files.old) (λ t. Shows t manner.now path.now (Some links.now) result) }
-    ensures plain { IfOk result (λ r. r.affected ≡ false) }
-    ensures cause { HasCause (F.faults files.old) (F.faults files.new) result }
-{
-    match read_report_file(alloc, files, path) {
-        Ok(bytes) => show_over(alloc, files, path, &bytes, links, manner),
-        Err(stop) => Err(stop),
-    }
-}
-
-// The same of a report whose bytes were read.
-fn show_over<F: Files>(
-    alloc: Global,
-    files: &mut F,
-    path: &str,
-    bytes: &[u8],
-    links: &str,
-    manner: &Manner,
-) -> Result<Report, Stop>
-    ensures shows { IfSome (F.told files.old) (λ t. ViewsWith t manner.now path.now links.now bytes.now result) }
-    ensures plain { IfOk result (λ r. r.affected ≡ false) }
-    ensures cause { HasCause (F.faults files.old) (F.faults files.new) result }
-{
-    match read_links_file(alloc, files, links) {
-        Ok(table) => view_of(alloc, path, bytes, &Some(table), manner),
+        Ok(bytes) => view_of(alloc, path, &bytes, manner),
         Err(stop) => Err(stop),
     }
 }
 
 // The view of a report's bytes.
-fn view_of(
-    alloc: Global,
-    path: &str,
-    bytes: &[u8],
-    links: &Option<LinkTable>,
-    manner: &Manner,
-) -> Result<Report, Stop>
+fn view_of(alloc: Global, path: &str, bytes: &[u8], manner: &Manner) -> Result<Report, Stop>
     ensures views { Views manner.now path.now bytes.now result }
     ensures plain { IfOk result (λ r. r.affected ≡ false) }
     ensures read { IfErr result WasRead }
 {
     match report_in(alloc, path, bytes) {
         Ok(read) => {
-            let report = shown(alloc, &read.names, &read.sections, links, manner)?;
+            let report = shown(alloc, read, manner)?;
             Ok(report)
         }
         Err(stop) => Err(stop),
@@ -172,17 +106,13 @@ fn view_of(
 }
 
 // Nothing is affected where nothing is compared.
-fn shown(
-    alloc: Global,
-    names: &Names,
-    sections: &[Section],
-    links: &Option<LinkTable>,
-    manner: &Manner,
-) -> Result<Report, NoMemory>
-    ensures view { IfOk result (λ r. IsView manner.now names.now sections.now r.text.items) }
+fn shown(alloc: Global, read: Reported, manner: &Manner) -> Result<Report, NoMemory>
+    ensures view { IfOk result (λ r. IsView manner.now read.names read.sections.items r.text.items) }
     ensures plain { IfOk result (λ r. r.affected ≡ false) }
 {
-    let text = text_of(alloc, names, sections, links, manner)?;
+    let Reported { names, sections } = read;
+    let ingresses = ingresses_of(alloc, sections)?;
+    let text = text_of(alloc, &names, &ingresses, manner)?;
     Ok(Report {
         text,
         affected: false,
@@ -192,16 +122,13 @@ fn shown(
 fn text_of(
     alloc: Global,
     names: &Names,
-    sections: &[Section],
-    links: &Option<LinkTable>,
+    ingresses: &[Ingress],
     manner: &Manner,
 ) -> Result<Vec<u8>, NoMemory>
-    ensures { IfOk result (λ text. IsView manner.now names.now sections.now text.items) }
+    ensures { IfOk result (λ text. text.items ≡ shown_as manner.now.format manner.now.title names.now ingresses.now) }
 {
     match manner.format {
-        Format::Text => view_bytes(alloc, names, sections, &manner.title),
-        Format::Page => page_bytes(alloc, names, sections, links.as_ref(), &manner.title),
-        Format::Json => json_bytes(alloc, names, sections),
-        Format::Csv => csv_bytes(alloc, names, sections),
+        Format::Text => view_bytes(alloc, manner.title.as_bytes(), names, ingresses),
+        Format::Json => json_bytes(alloc, names, ingresses),
     }
 }

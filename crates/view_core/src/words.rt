@@ -1,7 +1,7 @@
 //! The words of the command line.
 ghost use Rattle.std.specs.Prelude.{◌≡◌, map, string_bytes, option_map, IfOk, if◌then◌else◌, Some, None};
 ghost use Rattle.view_words.specs.Usage.{is_operand};
-ghost use Rattle.view_core.specs.Words.{format_named, format_of, behind_format, has_title, is_title, title_in, behind_title, paths_of, title_of, takes_links, path_in, path_of, links_in, links_of, manner_of, said, said_of, is_asked};
+ghost use Rattle.view_core.specs.Words.{format_named, format_of, behind_format, has_title, is_title, title_in, behind_title, paths_of, title_of, path_in, path_of, manner_of, said, said_of, is_asked};
 
 use net_types::{NoMemory, Text};
 use std::alloc::Global;
@@ -11,12 +11,8 @@ use view_words::{USAGE, VERSION, is_operand};
 #[derive(Clone, Copy, Debug, PartialEq, Eq)]
 pub enum Format {
     Text,
-    /// A page of HTML.
-    Page,
     /// One document of JSON.
     Json,
-    /// The groups, one in each line.
-    Csv,
 }
 
 /// In which form a report is shown, and with which title: an empty one is none.
@@ -59,14 +55,7 @@ pub(crate) fn is_asked(words: &[String]) -> bool
 pub(crate) fn path_of(words: &[String]) -> Option<&str>
     ensures { option_map (λ path. path.now) result ≡ path_of (map string_bytes words.now) }
 {
-    path_in(takes_links(format_of(words)), paths_of(words))
-}
-
-/// The path of the link table.
-pub(crate) fn links_of(words: &[String]) -> Option<&str>
-    ensures { option_map (λ path. path.now) result ≡ links_of (map string_bytes words.now) }
-{
-    links_in(paths_of(words))
+    path_in(paths_of(words))
 }
 
 /// In which form the report is shown, and with which title.
@@ -81,12 +70,8 @@ pub(crate) fn manner_of(alloc: Global, words: &[String]) -> Result<Manner, NoMem
 fn format_named(word: &[u8]) -> Option<Format>
     ensures { result ≡ format_named word.now }
 {
-    if word == b"--html".as_slice() {
-        Some(Format::Page)
-    } else if word == b"--json".as_slice() {
+    if word == b"--json".as_slice() {
         Some(Format::Json)
-    } else if word == b"--csv".as_slice() {
-        Some(Format::Csv)
     } else {
         None
     }
@@ -123,9 +108,7 @@ fn has_title(format: Format) -> bool
 {
     match format {
         Format::Text => true,
-        Format::Page => true,
         Format::Json => false,
-        Format::Csv => false,
     }
 }
 
@@ -185,36 +168,11 @@ fn paths_of(words: &[String]) -> &[String]
     }
 }
 
-fn takes_links(format: Format) -> bool
-    ensures { result ≡ takes_links format }
-{
-    match format {
-        Format::Page => true,
-        _ => false,
-    }
-}
-
-fn path_in(linked: bool, words: &[String]) -> Option<&str>
-    ensures { option_map (λ path. path.now) result ≡ path_in linked (map string_bytes words.now) }
+fn path_in(words: &[String]) -> Option<&str>
+    ensures { option_map (λ path. path.now) result ≡ path_in (map string_bytes words.now) }
 {
     match words {
         [path] => if_path(path.as_str()),
-        [path, links] => {
-            if linked && is_operand(links.as_bytes()) {
-                if_path(path.as_str())
-            } else {
-                None
-            }
-        }
-        _ => None,
-    }
-}
-
-fn links_in(words: &[String]) -> Option<&str>
-    ensures { option_map (λ path. path.now) result ≡ links_in (map string_bytes words.now) }
-{
-    match words {
-        [_, links] => Some(links.as_str()),
         _ => None,
     }
 }

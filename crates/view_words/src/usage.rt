@@ -6,14 +6,12 @@ ghost use Rattle.view_words.specs.Usage.{is_operand};
 /// How the program is used: on the error output where the words are outside it, and on the output where that is asked.
 pub const USAGE: &[u8] = b"usage:
   view [--title TEXT] REPORT
-  view --html [--title TEXT] REPORT [LINKS]
   view --json REPORT
-  view --csv REPORT
-  view --audit [--html|--json|--csv] [--rows] FINDINGS NET
-  view --answers [--html|--json|--csv|--junit] QUESTIONS [BEFORE] AFTER
-  view --traces [--html|--json] OLD NEW LINKS DEVICE INTERFACE HEADER
-  view --why [--html|--json] OLD NEW LINKS REPORT
-  view --why-all [--html|--json] OLD NEW LINKS REPORT
+  view --audit [--json] [--rows] FINDINGS NET
+  view --answers [--json] QUESTIONS [BEFORE] AFTER
+  view --traces [--json] OLD NEW LINKS DEVICE INTERFACE HEADER
+  view --why [--json] OLD NEW LINKS REPORT
+  view --why-all [--json] OLD NEW LINKS REPORT
   view --help
   view --version
 ";

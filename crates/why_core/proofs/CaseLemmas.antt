@@ -13,7 +13,8 @@ use Rattle.report_groups.specs.declared.types.Entry.{Entry}
 use Rattle.report_groups.specs.Entries.{AreEntries}
 use Rattle.report_text.specs.ReportText.{place_text}
 use Rattle.why_core.specs.declared.cases.CaseRef.{CaseRef}
-use Rattle.why_core.specs.Cases.{AreGroups, Case, agreeing, case_in, cases, cases_at, explained, in_ranks}
+use Rattle.view_core.specs.Kinds.{in_order}
+use Rattle.why_core.specs.Cases.{AreGroups, Case, agreeing, case_in, cases, cases_at, explained}
 
 -- ---- groups
 

@@ -41,9 +41,9 @@ module _ (g : Ground) (ingress : List Place) (m : Manner) (sections : List Secti
 
 -- of none of the groups that are explained the report says something else: these are what is shown
 pub none_wrong : (g : Ground) (m : Manner) (cs some : List CaseRef) (told : List (List ℕ)) (text : List ℕ) → map case_in some ≡ explained m.all (map case_in cs)
-    → told ≡ map (case_shown m.form g) (map case_in some) → IsGathered m.form (length cs) told text → AreRight g (map case_in some)
+    → told ≡ map (case_shown m.format g) (map case_in some) → IsGathered m.format (length cs) told text → AreRight g (map case_in some)
     → AreRight g (explained m.all (map case_in cs)) × IsShown g m (map case_in cs) text
 none_wrong g m cs some told text these each gathered right =
-    let of_these : told ≡ map (case_shown m.form g) (explained m.all (map case_in cs)) = each ∙ ap (map (case_shown m.form g)) these in
-    let shown = subst (λ l. IsGathered m.form (length cs) l text) of_these gathered in
-    (subst (AreRight g) these right, subst (λ n. IsGathered m.form n (map (case_shown m.form g) (explained m.all (map case_in cs))) text) (sym (length-map cs case_in)) shown)
+    let of_these : told ≡ map (case_shown m.format g) (explained m.all (map case_in cs)) = each ∙ ap (map (case_shown m.format g)) these in
+    let shown = subst (λ l. IsGathered m.format (length cs) l text) of_these gathered in
+    (subst (AreRight g) these right, subst (λ n. IsGathered m.format n (map (case_shown m.format g) (explained m.all (map case_in cs))) text) (sym (length-map cs case_in)) shown)

@@ -1,5 +1,5 @@
 -- The groups of a report at the ingresses of two networks, and what is said of each.
-use Rattle.std.specs.Prelude.{ℕ, ◌≡◌, ◌+◌, suc, Bool, ◌&&◌, ◌==◌, List, [], ◌∷◌, ◌++◌, filter, flat_map, map, take, codes, if◌then◌else◌}
+use Rattle.std.specs.Prelude.{ℕ, ◌≡◌, ◌+◌, suc, Bool, ◌&&◌, List, [], ◌∷◌, ◌++◌, map, take, codes, if◌then◌else◌}
 use Rattle.std.specs.List.{AllZip}
 use Rattle.std.specs.Str.{bytes_eq}
 use Rattle.hdr_bits.specs.declared.header.Header.{Header}
@@ -9,8 +9,6 @@ use Rattle.net_types.specs.declared.network.Section.{Section}
 use Rattle.net_types.specs.World.{World}
 use Rattle.report_text.specs.FieldText.{header_text}
 use Rattle.report_text.specs.ReportText.{label_text, place_text}
-use Rattle.report_groups.specs.declared.types.Change.{Change}
-use Rattle.report_groups.specs.declared.types.Change.TheVariants as change
 use Rattle.report_groups.specs.declared.types.Entry.{Entry}
 use Rattle.report_groups.specs.Entries.{AreEntries}
 use Rattle.report_groups.specs.Least.{least_of}
@@ -18,6 +16,7 @@ use Rattle.walk_trace.specs.declared.types.Trace.{Trace}
 use Rattle.walk_trace.specs.Traced.{traced}
 use Rattle.trace_sides.specs.Sides.{sides_text}
 use Rattle.view_core.specs.Groups.{group_text}
+use Rattle.view_core.specs.Kinds.{in_order}
 use Rattle.why_core.specs.declared.basis.Basis.{Basis}
 use Rattle.why_core.specs.declared.cases.CaseRef.{CaseRef}
 
@@ -26,20 +25,6 @@ use Rattle.why_core.specs.declared.cases.CaseRef.{CaseRef}
 -- a grouping of the rows of each section
 abbrev pub AreGroups : List Section → List (List Entry) → Type 0
 AreGroups sections groups = AllZip (λ s entries. AreEntries s.rows entries) sections groups
-
--- what is looked at first: loops, then what is closed, opened, moved and translated otherwise
-abbrev pub rank_of : Change → ℕ
-rank_of change.Loops = 0
-rank_of change.Closes = 1
-rank_of change.Opens = 2
-rank_of change.Moves = 3
-rank_of change.Translated = 4
-
-abbrev pub of_rank : List Entry → ℕ → List Entry
-of_rank entries k = filter (λ e. rank_of e.change == k) entries
-
-abbrev pub in_ranks : List Entry → List Entry
-in_ranks entries = of_rank entries 0 ++ of_rank entries 1 ++ of_rank entries 2 ++ of_rank entries 3 ++ of_rank entries 4
 
 -- a group of a section of the report, with the section's ingress by its numbers in the networks
 pub record Case : Type 0 where
@@ -53,9 +38,9 @@ case_in c = record { section = c.section.now; place = c.place; entry = c.entry.n
 abbrev pub cases_at : Section → Place → List Entry → List Case
 cases_at s p entries = map (λ e. record { section = s; place = p; entry = e }) entries
 
--- all groups in the order of the report, those of one ingress by what is looked at first
+-- all groups in the order of the report, those of one ingress as a view shows them
 abbrev pub cases : List Section → List Place → List (List Entry) → List Case
-cases (s ∷ ss) (p ∷ ps) (es ∷ ess) = cases_at s p (in_ranks es) ++ cases ss ps ess
+cases (s ∷ ss) (p ∷ ps) (es ∷ ess) = cases_at s p (in_order es) ++ cases ss ps ess
 cases (s ∷ ss) (p ∷ ps) [] = []
 cases (s ∷ ss) [] ess = []
 cases [] ps ess = []

@@ -3,7 +3,6 @@ pub mod Networks
 pub mod Cases
 pub mod ShownJson
 pub mod Shown
-pub mod Ways
 pub mod Lines
 pub mod Why
 pub mod Told

@@ -16,7 +16,7 @@ use Rattle.why_core.specs.Networks.{AcceptedNetworks, GivesNetworks}
 -- the packet's traces in both networks, from the place of these names on, are shown
 abbrev pub IsFollowed : NumberedBoth → Traces → List ℕ → Type 0
 IsFollowed n w text =
-    IsSides w.form n.names w
+    IsSides w.format n.names w
     (traced (record { network = n.old; links = n.old_links }) first_ttl (place_of n.names.texts (w.device, w.interface)) w.header)
     (traced (record { network = n.new; links = n.new_links }) first_ttl (place_of n.names.texts (w.device, w.interface)) w.header)
     text

@@ -1,7 +1,6 @@
 //! What an explanation rests on.
 
 use net_types::Names;
-use topo_links::LinkTable;
 use walk_trace::Site;
 
 /// The names of a report's places, and two networks with theirs.
@@ -10,8 +9,6 @@ pub struct Basis<'a> {
     pub report: &'a Names,
     /// The names of both networks.
     pub names: &'a Names,
-    /// The table that wires both.
-    pub links: &'a LinkTable,
     /// The old network.
     pub before: Site<'a>,
     /// The new network.
@@ -23,7 +20,6 @@ impl<'a> Drop for Basis<'a> {
         let Basis {
             report: _,
             names: _,
-            links: _,
             before: _,
             after: _,
         } = self;

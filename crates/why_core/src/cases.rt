@@ -1,11 +1,13 @@
 //! The groups of a report, each with its ingress.
 
 ghost use Rattle.std.specs.Prelude.{◌≡◌, ◌++◌, IfOk, OnOk, map};
-ghost use Rattle.why_core.specs.Cases.{AreGroups, case_in, cases, cases_at, explained, in_ranks, of_rank, rank_of};
+ghost use Rattle.view_core.specs.Kinds.{in_order};
+ghost use Rattle.why_core.specs.Cases.{AreGroups, case_in, cases, cases_at, explained};
 
 use net_types::{NoMemory, Place, Section};
-use report_groups::{Change, Entry, group_rows};
+use report_groups::{Entry, group_rows};
 use std::alloc::Global;
+use view_core::in_order;
 
 /// A group of a section, and the section's ingress by its numbers in the networks.
 #[derive(Clone, Copy)]
@@ -26,7 +28,7 @@ pub(crate) fn groups_of(alloc: Global, sections: &[Section]) -> Result<Vec<Vec<E
     Ok(groups)
 }
 
-/// All groups in the order of the report, those of one ingress by what is looked at first.
+/// All groups in the order of the report, those of one ingress as a view shows them.
 pub(crate) fn cases_of<'a>(
     alloc: Global,
     sections: &'a [Section],
@@ -38,58 +40,41 @@ pub(crate) fn cases_of<'a>(
     let mut found = Vec::new(alloc);
     let count = sections.len().min(ingress.len()).min(groups.len());
     for i in 0..count {
-        add_ranks(&mut found, &sections[i], ingress[i], &groups[i])?;
+        add_cases(alloc, &mut found, &sections[i], ingress[i], &groups[i])?;
     }
     Ok(found)
 }
 
 // Adds the groups of a section.
-fn add_ranks<'a>(
+fn add_cases<'a>(
+    alloc: Global,
     found: &mut Vec<CaseRef<'a>>,
     section: &'a Section,
     place: Place,
     entries: &'a [Entry],
 ) -> Result<(), NoMemory>
-    ensures { OnOk result (map case_in found.new.items ≡ map case_in found.old.items ++ cases_at section.now place (in_ranks entries.now)) }
+    ensures { OnOk result (map case_in found.new.items ≡ map case_in found.old.items ++ cases_at section.now place (in_order entries.now)) }
 {
-    add_rank(found, section, place, entries, 0)?;
-    add_rank(found, section, place, entries, 1)?;
-    add_rank(found, section, place, entries, 2)?;
-    add_rank(found, section, place, entries, 3)?;
-    add_rank(found, section, place, entries, 4)
+    let ordered = in_order(alloc, entries)?;
+    add_ordered(found, section, place, &ordered)
 }
 
-fn add_rank<'a>(
+fn add_ordered<'a>(
     found: &mut Vec<CaseRef<'a>>,
     section: &'a Section,
     place: Place,
-    entries: &'a [Entry],
-    rank: u32,
+    entries: &[&'a Entry],
 ) -> Result<(), NoMemory>
-    ensures { OnOk result (map case_in found.new.items ≡ map case_in found.old.items ++ cases_at section.now place (of_rank entries.now rank)) }
+    ensures { OnOk result (map case_in found.new.items ≡ map case_in found.old.items ++ cases_at section.now place (map (λ e. e.now) entries.now)) }
 {
     for entry in entries {
-        if rank_of(entry.change) == rank {
-            found.push(CaseRef {
-                section,
-                place,
-                entry,
-            })?;
-        }
+        found.push(CaseRef {
+            section,
+            place,
+            entry: *entry,
+        })?;
     }
     Ok(())
-}
-
-fn rank_of(change: Change) -> u32
-    ensures { result ≡ rank_of change }
-{
-    match change {
-        Change::Loops => 0,
-        Change::Closes => 1,
-        Change::Opens => 2,
-        Change::Moves => 3,
-        Change::Translated => 4,
-    }
 }
 
 /// All groups, or the first hundred.

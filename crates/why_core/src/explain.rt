@@ -12,14 +12,14 @@ use crate::gathered::gathered;
 use crate::json::told_json;
 use crate::lines::head_or_end;
 use crate::right::{agreeing, has_outcomes};
-use crate::words::{FIRST_TTL, Form, Manner};
+use crate::words::{FIRST_TTL, Manner};
 use hdr_bits::Header;
 use net_types::{Names, NoMemory, Place, Section};
 use report_groups::least_header;
 use report_text::{append, append_place, header_bytes};
 use std::alloc::Global;
 use trace_sides::sides_bytes;
-use view_core::group_bytes;
+use view_core::{Format, group_bytes};
 use walk_trace::{Trace, trace_on};
 
 /// What there is to say of a report and two networks.
@@ -65,13 +65,12 @@ pub(crate) fn explanation(
     }
     let groups = groups_of(alloc, sections)?;
     let cases = cases_of(alloc, sections, ingress, &groups)?;
-    told_of(alloc, basis, sections, &cases, manner)
+    told_of(alloc, basis, &cases, manner)
 }
 
 fn told_of(
     alloc: Global,
     basis: &mut Basis,
-    sections: &[Section],
     cases: &[CaseRef],
     manner: Manner,
 ) -> Result<Told, NoMemory>
@@ -79,9 +78,9 @@ fn told_of(
 {
     let some = explained(manner.all, cases);
     let mut told = Vec::new(alloc);
-    match add_cases(alloc, &mut told, basis, some, manner.form)? {
+    match add_cases(alloc, &mut told, basis, some, manner.format)? {
         None => {
-            let text = gathered(alloc, basis, sections, cases.len(), &told, manner.form)?;
+            let text = gathered(alloc, cases.len(), &told, manner.format)?;
             Ok(Told::Explained { text })
         }
         Some(case) => {
@@ -97,15 +96,15 @@ fn add_cases<'a>(
     told: &mut Vec<Vec<u8>>,
     basis: &mut Basis,
     cases: &[CaseRef<'a>],
-    form: Form,
+    format: Format,
 ) -> Result<Option<CaseRef<'a>>, NoMemory>
-    ensures told { IfOk result (λ wrong. wrong ≡ None → map (λ text. text.items) told.new.items ≡ map (λ text. text.items) told.old.items ++ map (case_shown form (ground_of basis.old)) (map case_in cases.now)) }
+    ensures told { IfOk result (λ wrong. wrong ≡ None → map (λ text. text.items) told.new.items ≡ map (λ text. text.items) told.old.items ++ map (case_shown format (ground_of basis.old)) (map case_in cases.now)) }
     ensures right { IfOk result (λ wrong. wrong ≡ None → AreRight (ground_of basis.old) (map case_in cases.now)) }
     ensures wrong { IfOk result (λ wrong. IfSome wrong (λ case. IsWrong (ground_of basis.old) (map case_in cases.now) (case_in case))) }
     ensures same { ground_of basis.new ≡ ground_of basis.old }
 {
     for case in cases {
-        if !add_case(alloc, told, basis, *case, form)? {
+        if !add_case(alloc, told, basis, *case, format)? {
             return Ok(Some(*case));
         }
     }
@@ -118,17 +117,17 @@ fn add_case(
     told: &mut Vec<Vec<u8>>,
     basis: &mut Basis,
     case: CaseRef,
-    form: Form,
+    format: Format,
 ) -> Result<bool, NoMemory>
     ensures right { IfOk result (λ right. right ≡ is_right (ground_of basis.old) (case_in case.entry)) }
-    ensures told { IfOk result (λ right. IsTrue right → map (λ text. text.items) told.new.items ≡ map (λ text. text.items) told.old.items ++ case_shown form (ground_of basis.old) (case_in case.entry) ∷ []) }
+    ensures told { IfOk result (λ right. IsTrue right → map (λ text. text.items) told.new.items ≡ map (λ text. text.items) told.old.items ++ case_shown format (ground_of basis.old) (case_in case.entry) ∷ []) }
     ensures same { ground_of basis.new ≡ ground_of basis.old }
 {
     let header = least_header(&case.entry.group);
     let old = trace_on(alloc, &mut basis.before, case.place, &header, FIRST_TTL)?;
     let new = trace_on(alloc, &mut basis.after, case.place, &header, FIRST_TTL)?;
     let followed = Followed { header, old, new };
-    add_followed(alloc, told, basis, case, &followed, form)
+    add_followed(alloc, told, basis, case, &followed, format)
 }
 
 fn add_followed(
@@ -137,10 +136,10 @@ fn add_followed(
     basis: &Basis,
     case: CaseRef,
     followed: &Followed,
-    form: Form,
+    format: Format,
 ) -> Result<bool, NoMemory>
     ensures right { IfOk result (λ right. right ≡ has_outcomes basis.now.report.now basis.now.names.now case.entry.entry.now followed.now.old followed.now.new) }
-    ensures told { IfOk result (λ right. IsTrue right → map (λ text. text.items) told.new.items ≡ map (λ text. text.items) told.old.items ++ shown_of form basis.now.report.now basis.now.names.now (case_in case.entry) followed.now.header followed.now.old followed.now.new ∷ []) }
+    ensures told { IfOk result (λ right. IsTrue right → map (λ text. text.items) told.new.items ≡ map (λ text. text.items) told.old.items ++ shown_of format basis.now.report.now basis.now.names.now (case_in case.entry) followed.now.header followed.now.old followed.now.new ∷ []) }
 {
     if !has_outcomes(
         alloc,
@@ -152,7 +151,7 @@ fn add_followed(
     )? {
         return Ok(false);
     }
-    told.push(shown(alloc, basis, case, followed, form)?)?;
+    told.push(shown(alloc, basis, case, followed, format)?)?;
     Ok(true)
 }
 
@@ -162,14 +161,13 @@ fn shown(
     basis: &Basis,
     case: CaseRef,
     followed: &Followed,
-    form: Form,
+    format: Format,
 ) -> Result<Vec<u8>, NoMemory>
-    ensures { IfOk result (λ text. text.items ≡ shown_of form basis.now.report.now basis.now.names.now (case_in case.entry) followed.now.header followed.now.old followed.now.new) }
+    ensures { IfOk result (λ text. text.items ≡ shown_of format basis.now.report.now basis.now.names.now (case_in case.entry) followed.now.header followed.now.old followed.now.new) }
 {
-    match form {
-        Form::Text => told_bytes(alloc, basis, case, followed),
-        Form::Page => packet_bytes(alloc, basis.names, followed),
-        Form::Json => told_json(alloc, basis, case, followed),
+    match format {
+        Format::Text => told_bytes(alloc, basis, case, followed),
+        Format::Json => told_json(alloc, basis, case, followed),
     }
 }
 
@@ -206,14 +204,6 @@ fn append_told(
 }
 
 // A header, and its traces.
-fn packet_bytes(alloc: Global, names: &Names, followed: &Followed) -> Result<Vec<u8>, NoMemory>
-    ensures { IfOk result (λ text. text.items ≡ packet_text names.now followed.now.header followed.now.old followed.now.new) }
-{
-    let mut text = Vec::new(alloc);
-    append_packet(alloc, &mut text, names, followed)?;
-    Ok(text)
-}
-
 #[tactic(auto, unfolding(crate::specs::Cases::packet_text))]
 fn append_packet(
     alloc: Global,

@@ -1,34 +1,27 @@
-//! What is said of the groups that are explained, as one text, page or document.
+//! What is said of the groups that are explained, as one text or document.
 
-ghost use Rattle.std.specs.Prelude.{◌≡◌, ◌++◌, codes, flat_map, true, nat_eq, IfOk, OnOk, length, map};
-ghost use Rattle.std.specs.List.{join_by, starts_with};
-ghost use Rattle.view_core.specs.Pages.{IsPage};
-ghost use Rattle.view_core.specs.Views.{page_head};
+ghost use Rattle.std.specs.Prelude.{◌≡◌, ◌++◌, codes, flat_map, IfOk, OnOk, length, map};
+ghost use Rattle.std.specs.List.{join_by};
 ghost use Rattle.why_core.specs.Shown.{counts_text, IsGathered};
 ghost use Rattle.why_core.specs.ShownJson.{why_front};
 
-use crate::basis::Basis;
-use crate::words::Form;
-use net_types::{NoMemory, Section, Text};
+use net_types::NoMemory;
 use report_text::{append, append_number};
 use std::alloc::Global;
-use view_core::told_page;
+use view_core::Format;
 
-/// What is said of the groups that are explained, of so many; on a page it is folded under these among all groups.
+/// What is said of the groups that are explained, of so many.
 pub(crate) fn gathered(
     alloc: Global,
-    basis: &Basis,
-    sections: &[Section],
     groups: usize,
     told: &[Vec<u8>],
-    form: Form,
+    format: Format,
 ) -> Result<Vec<u8>, NoMemory>
-    ensures { IfOk result (λ text. IsGathered form groups (map (λ t. t.items) told.now) text.items) }
+    ensures { IfOk result (λ text. IsGathered format groups (map (λ t. t.items) told.now) text.items) }
 {
-    match form {
-        Form::Text => text_of(alloc, groups, told),
-        Form::Page => page_of(alloc, basis, sections, told),
-        Form::Json => document_of(alloc, groups, told),
+    match format {
+        Format::Text => text_of(alloc, groups, told),
+        Format::Json => document_of(alloc, groups, told),
     }
 }
 
@@ -38,26 +31,6 @@ fn text_of(alloc: Global, groups: usize, told: &[Vec<u8>]) -> Result<Vec<u8>, No
     let mut text = counts_bytes(alloc, groups, told.len())?;
     append_all(&mut text, told)?;
     Ok(text)
-}
-
-fn page_of(
-    alloc: Global,
-    basis: &Basis,
-    sections: &[Section],
-    told: &[Vec<u8>],
-) -> Result<Vec<u8>, NoMemory>
-    ensures begins { IfOk result (λ text. starts_with nat_eq text.items page_head ≡ true) }
-    ensures escaped { IfOk result (λ text. ∥ IsPage text.items ∥₁) }
-{
-    let untitled = Text::new(Vec::new(alloc));
-    told_page(
-        alloc,
-        basis.report,
-        sections,
-        Some(basis.links),
-        &untitled,
-        told,
-    )
 }
 
 fn document_of(alloc: Global, groups: usize, told: &[Vec<u8>]) -> Result<Vec<u8>, NoMemory>

@@ -10,10 +10,8 @@ mod gathered;
 mod json;
 mod lines;
 mod networks;
-mod page;
 mod right;
 mod traces;
-mod ways;
 mod why;
 mod words;
 

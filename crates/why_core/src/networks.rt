@@ -93,27 +93,14 @@ fn read_linked<F: Files>(
     }
 }
 
-/// Both networks over one list of names, and the table that wires them.
-pub struct Wired {
-    pub both: NumberedBoth,
-    pub links: LinkTable,
-}
-
-impl Drop for Wired {
-    fn drop(self) {
-        let Wired { both: _, links: _ } = self;
-    }
-}
-
 impl Networks {
     /// Both networks over one list of names, which has these names too.
-    pub(crate) fn number(self, alloc: Global, extra: &[Text]) -> Result<Wired, NoMemory>
+    pub(crate) fn number(self, alloc: Global, extra: &[Text]) -> Result<NumberedBoth, NoMemory>
         requires few { AreFew self }
         requires extra { length extra.now ≤ 2 }
-        ensures { IfOk result (λ wired. wired.both ≡ numbered_both self.old.items self.new.items self.links self.links extra.now) }
+        ensures { IfOk result (λ both. both ≡ numbered_both self.old.items self.new.items self.links self.links extra.now) }
     {
         let Networks { old, new, links } = self;
-        let both = number_both(alloc, old, new, &links, &links, extra)?;
-        Ok(Wired { both, links })
+        number_both(alloc, old, new, &links, &links, extra)
     }
 }

@@ -1,4 +1,4 @@
-//! `view --traces [FORM] OLD NEW LINKS DEVICE INTERFACE HEADER`: what becomes of a packet in two networks.
+//! `view --traces [--json] OLD NEW LINKS DEVICE INTERFACE HEADER`: what becomes of a packet in two networks.
 
 ghost use Rattle.std.specs.Prelude.{◌≡◌, ◌≢◌, ◌⊎◌, ◌<◌, ◌≤◌, ◌^◌, ◌∷◌, [], false, IfErr, IfOk, IfSome, length, map, position, string_bytes};
 ghost use Rattle.std.specs.Str.{bytes_eq};
@@ -13,14 +13,15 @@ ghost use Rattle.why_core.specs.Traces.{AreTraces, Does, Follows, IsAccepted, Is
 ghost use Rattle.why_core.specs.Words.{traces_in};
 
 use crate::json::traces_json;
-use crate::networks::{Networks, Wired, read_networks};
-use crate::page::traces_page;
-use crate::words::{FIRST_TTL, Form, TracesWords, traces_of};
+use crate::networks::{Networks, read_networks};
+use crate::words::{FIRST_TTL, TracesWords, traces_of};
 use job_core::{Report, Stop, finish, no_memory, refuse};
 use net_io::{Files, Sink};
+use net_load::NumberedBoth;
 use net_types::{Names, NoMemory, Place, Text};
 use std::alloc::Global;
 use trace_sides::sides_bytes;
+use view_core::Format;
 use view_words::USAGE;
 use walk_trace::{Trace, trace};
 
@@ -78,8 +79,8 @@ fn followed(alloc: Global, networks: Networks, asked: TracesWords) -> Result<Rep
     ensures { IfOk result (AreTraces (numbered_for networks (traces_in asked.entry)) (traces_in asked.entry)) }
 {
     let names = names_of(alloc, asked)?;
-    let wired = networks.number(alloc, &names)?;
-    let text = traces_bytes(alloc, &wired, asked)?;
+    let both = networks.number(alloc, &names)?;
+    let text = traces_bytes(alloc, &both, asked)?;
     Ok(Report {
         text,
         affected: false,
@@ -97,11 +98,14 @@ fn names_of(alloc: Global, asked: TracesWords) -> Result<Vec<Text>, NoMemory>
 }
 
 // The packet's traces in both networks, as the words ask.
-fn traces_bytes(alloc: Global, wired: &Wired, asked: TracesWords) -> Result<Vec<u8>, NoMemory>
-    requires { length wired.now.both.names.texts < 2 ^ 32 }
-    ensures { IfOk result (λ text. IsFollowed wired.now.both (traces_in asked.entry) text.items) }
+fn traces_bytes(
+    alloc: Global,
+    numbered: &NumberedBoth,
+    asked: TracesWords,
+) -> Result<Vec<u8>, NoMemory>
+    requires { length numbered.now.names.texts < 2 ^ 32 }
+    ensures { IfOk result (λ text. IsFollowed numbered.now (traces_in asked.entry) text.items) }
 {
-    let numbered = &wired.both;
     let place = place_of(&numbered.names, asked.device, asked.interface);
     let header = asked.header;
     let old = trace(
@@ -120,22 +124,21 @@ fn traces_bytes(alloc: Global, wired: &Wired, asked: TracesWords) -> Result<Vec<
         &header,
         FIRST_TTL,
     )?;
-    shown(alloc, wired, asked, &old, &new)
+    shown(alloc, &numbered.names, asked, &old, &new)
 }
 
 fn shown(
     alloc: Global,
-    wired: &Wired,
+    names: &Names,
     asked: TracesWords,
     old: &Trace,
     new: &Trace,
 ) -> Result<Vec<u8>, NoMemory>
-    ensures { IfOk result (λ text. IsSides asked.entry.form wired.now.both.names (traces_in asked.entry) old.now new.now text.items) }
+    ensures { IfOk result (λ text. IsSides asked.entry.format names.now (traces_in asked.entry) old.now new.now text.items) }
 {
-    match asked.form {
-        Form::Text => sides_bytes(alloc, &wired.both.names, old, new),
-        Form::Page => traces_page(alloc, wired, asked, old, new),
-        Form::Json => traces_json(alloc, &wired.both.names, asked, old, new),
+    match asked.format {
+        Format::Text => sides_bytes(alloc, names, old, new),
+        Format::Json => traces_json(alloc, names, asked, old, new),
     }
 }
 

@@ -14,10 +14,11 @@ ghost use Rattle.why_core.specs.Words.{why_in};
 use crate::basis::Basis;
 use crate::explain::{Told, explanation};
 use crate::lines::line_of;
-use crate::networks::{Networks, Wired, read_networks};
+use crate::networks::{Networks, read_networks};
 use crate::words::{Manner, WhyWords, why_of};
 use job_core::{Report, Stop, finish, refuse};
 use net_io::{Files, Sink};
+use net_load::NumberedBoth;
 use net_types::{Names, NoMemory, Place, Text};
 use net_view::WorldRef;
 use std::alloc::Global;
@@ -114,8 +115,8 @@ fn judge(
     ensures plain { IfOk result (λ r. r.affected ≡ false) }
     ensures read { IfErr result WasRead }
 {
-    let wired = networks.number(alloc, &[])?;
-    let told = tell(alloc, &wired, reported, asked.manner)?;
+    let both = networks.number(alloc, &[])?;
+    let told = tell(alloc, &both, reported, asked.manner)?;
     match told {
         Told::Explained { text } => Ok(Report {
             text,
@@ -130,17 +131,16 @@ fn judge(
 }
 
 // What there is to say, over the networks.
-fn tell(alloc: Global, wired: &Wired, reported: &Reported, manner: Manner) -> Result<Told, NoMemory>
-    ensures { IfOk result (IsTold (ground_with reported.now.names wired.now.both) wired.now.both.ingress manner reported.now.sections.items) }
+fn tell(
+    alloc: Global,
+    both: &NumberedBoth,
+    reported: &Reported,
+    manner: Manner,
+) -> Result<Told, NoMemory>
+    ensures { IfOk result (IsTold (ground_with reported.now.names both.now) both.now.ingress manner reported.now.sections.items) }
 {
-    let mut basis = basis_of(alloc, wired, &reported.names)?;
-    tell_on(
-        alloc,
-        &mut basis,
-        reported,
-        wired.both.ingress.as_slice(),
-        manner,
-    )
+    let mut basis = basis_of(alloc, both, &reported.names)?;
+    tell_on(alloc, &mut basis, reported, both.ingress.as_slice(), manner)
 }
 
 // The same, over these networks.
@@ -157,23 +157,26 @@ fn tell_on(
 }
 
 // Both networks, each of which is indexed once.
-fn basis_of<'a>(alloc: Global, wired: &'a Wired, report: &'a Names) -> Result<Basis<'a>, NoMemory>
-    ensures { IfOk result (λ basis. ground_of basis ≡ ground_with report.now wired.now.both) }
+fn basis_of<'a>(
+    alloc: Global,
+    both: &'a NumberedBoth,
+    report: &'a Names,
+) -> Result<Basis<'a>, NoMemory>
+    ensures { IfOk result (λ basis. ground_of basis ≡ ground_with report.now both.now) }
 {
     let before = WorldRef {
-        network: &wired.both.old,
-        links: &wired.both.old_links,
+        network: &both.old,
+        links: &both.old_links,
     };
     let after = WorldRef {
-        network: &wired.both.new,
-        links: &wired.both.new_links,
+        network: &both.new,
+        links: &both.new_links,
     };
     let before = Site::of(alloc, before)?;
     let after = Site::of(alloc, after)?;
     Ok(Basis {
         report,
-        names: &wired.both.names,
-        links: &wired.links,
+        names: &both.names,
         before,
         after,
     })

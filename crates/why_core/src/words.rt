@@ -1,32 +1,23 @@
 //! The words of the command line.
 
 ghost use Rattle.std.specs.Prelude.{◌≡◌, IfOk, map, option_map, string_bytes};
-ghost use Rattle.why_core.specs.Words.{behind_form, form_named, form_of, traces_in, traces_of, traces_over, traces_with, why_in, why_of, why_over, why_with};
+ghost use Rattle.why_core.specs.Words.{traces_in, traces_of, traces_over, traces_with, why_in, why_of, why_over, why_with};
 
 use hdr_bits::Header;
 use net_types::NoMemory;
 use review_args::header;
 use std::alloc::Global;
+use view_core::{Format, behind_format, format_of};
 use view_words::is_operand;
 
 /// Packets enter with the greatest TTL (RFC 791, 3.1): the words name none.
 pub(crate) const FIRST_TTL: u8 = 255;
 
-/// A form in which something is shown.
-#[derive(Clone, Copy, Debug, PartialEq, Eq)]
-pub enum Form {
-    Text,
-    /// A page of HTML.
-    Page,
-    /// One document of JSON.
-    Json,
-}
-
-/// How a report is explained: all of its groups, or the first hundred, and in which form.
+/// How a report is explained: all of its groups, or the first hundred, and in which format.
 #[derive(Clone, Copy, Debug, PartialEq, Eq)]
 pub struct Manner {
     pub all: bool,
-    pub form: Form,
+    pub format: Format,
 }
 
 /// Two networks and a report on them, and in which manner it is explained.
@@ -39,7 +30,7 @@ pub struct WhyWords<'a> {
     pub manner: Manner,
 }
 
-/// Two networks, a packet by its header and the place where it enters, and in which form its traces are shown.
+/// Two networks, a packet by its header and the place where it enters, and in which format its traces are shown.
 #[derive(Clone, Copy)]
 pub struct TracesWords<'a> {
     pub old: &'a str,
@@ -48,48 +39,10 @@ pub struct TracesWords<'a> {
     pub device: &'a str,
     pub interface: &'a str,
     pub header: Header,
-    pub form: Form,
+    pub format: Format,
 }
 
-fn form_named(word: &[u8]) -> Option<Form>
-    ensures { result ≡ form_named word.now }
-{
-    if word == b"--html".as_slice() {
-        Some(Form::Page)
-    } else if word == b"--json".as_slice() {
-        Some(Form::Json)
-    } else {
-        None
-    }
-}
-
-// The form that the first word asks for, and else text.
-fn form_of(words: &[String]) -> Form
-    ensures { result ≡ form_of (map string_bytes words.now) }
-{
-    match words {
-        [] => Form::Text,
-        [first, ..] => form_named(first.as_bytes()).unwrap_or(Form::Text),
-    }
-}
-
-// The words behind that one, or all where it asks for none.
-fn behind_form(words: &[String]) -> &[String]
-    ensures { map string_bytes result.now ≡ behind_form (map string_bytes words.now) }
-{
-    match words {
-        [] => words,
-        [first, rest @ ..] => {
-            if form_named(first.as_bytes()).is_some() {
-                rest
-            } else {
-                words
-            }
-        }
-    }
-}
-
-/// `--why [FORM] OLD NEW LINKS REPORT`, or `--why-all` with the same.
+/// `--why [--json] OLD NEW LINKS REPORT`, or `--why-all` with the same.
 pub(crate) fn why_of(words: &[String]) -> Option<WhyWords<'_>>
     ensures { option_map why_in result ≡ why_of (map string_bytes words.now) }
 {
@@ -110,9 +63,9 @@ fn why_with(all: bool, words: &[String]) -> Option<WhyWords<'_>>
 {
     let manner = Manner {
         all,
-        form: form_of(words),
+        format: format_of(words),
     };
-    why_over(manner, behind_form(words))
+    why_over(manner, behind_format(words))
 }
 
 fn why_over(manner: Manner, words: &[String]) -> Option<WhyWords<'_>>
@@ -137,7 +90,7 @@ fn why_over(manner: Manner, words: &[String]) -> Option<WhyWords<'_>>
     None
 }
 
-/// `--traces [FORM] OLD NEW LINKS DEVICE INTERFACE HEADER`.
+/// `--traces [--json] OLD NEW LINKS DEVICE INTERFACE HEADER`.
 pub(crate) fn traces_of(
     alloc: Global,
     words: &[String],
@@ -156,15 +109,15 @@ pub(crate) fn traces_of(
 fn traces_with(alloc: Global, words: &[String]) -> Result<Option<TracesWords<'_>>, NoMemory>
     ensures { IfOk result (λ asked. option_map traces_in asked ≡ traces_with (map string_bytes words.now)) }
 {
-    traces_over(alloc, form_of(words), behind_form(words))
+    traces_over(alloc, format_of(words), behind_format(words))
 }
 
 fn traces_over(
     alloc: Global,
-    form: Form,
+    format: Format,
     words: &[String],
 ) -> Result<Option<TracesWords<'_>>, NoMemory>
-    ensures { IfOk result (λ asked. option_map traces_in asked ≡ traces_over form (map string_bytes words.now)) }
+    ensures { IfOk result (λ asked. option_map traces_in asked ≡ traces_over format (map string_bytes words.now)) }
 {
     let [old, new, links, device, interface, header_word] = words else {
         return Ok(None);
@@ -187,6 +140,6 @@ fn traces_over(
         device: device.as_str(),
         interface: interface.as_str(),
         header,
-        form,
+        format,
     }))
 }

@@ -11,7 +11,7 @@ pub returns-in-Ok-clause-shows : goal.returns-in-Ok-clause-shows
 returns-in-Ok-clause-shows g c =
     let told : Option Told = g.F.Files.told c.args.files.now in
     let path = c.args.questions.now in
-    let f = c.args.form in
+    let f = c.args.format in
     let before = option_map (λ p. p.now) c.args.before in
     let after = c.args.after.now in
     let read = subst (λ (b : List ℕ). IfSome (g.F.Files.told c.read_bytes.new.files) (λ t. ShowsFor t f before after (asked_in b) c.show_of.result)) c.deref.ensures.value c.show_of.ensures.shows in
@@ -23,4 +23,4 @@ returns-in-Err-clause-shows g c =
     let told : Option Told = g.F.Files.told c.args.files.now in
     let path = c.args.questions.now in
     let before = option_map (λ p. p.now) c.args.before in
-    then_stop {A = List ℕ} (λ t r. GivesBytes (λ (b : List ℕ). b) path (content t path) r) (λ t b r. ShowsFor t c.args.form before c.args.after.now (asked_in b) r) told c.in-Err.stop c.in-Err.ensures.bytes
+    then_stop {A = List ℕ} (λ t r. GivesBytes (λ (b : List ℕ). b) path (content t path) r) (λ t b r. ShowsFor t c.args.format before c.args.after.now (asked_in b) r) told c.in-Err.stop c.in-Err.ensures.bytes

@@ -10,13 +10,13 @@ pub returns-in-None-clause-shows : goal.returns-in-None-clause-shows
 returns-in-None-clause-shows g c =
     let told : Option Told = g.F.Files.told c.args.files.now in
     let r = c.show_alone.result in
-    let asked = subst (λ (qs : List Asked). IfSome told (λ t. ShowsFor t c.args.form None c.args.after.now qs r)) c.in_ok-asked.ensures c.show_alone.ensures.shows in
-    subst (λ (o : Option (List ℕ)). IfSome told (λ t. ShowsFor t c.args.form o c.args.after.now (asked_in c.args.bytes.now) r)) (sym (ap (option_map (λ p. p.now)) c.in-None.is)) asked
+    let asked = subst (λ (qs : List Asked). IfSome told (λ t. ShowsFor t c.args.format None c.args.after.now qs r)) c.in_ok-asked.ensures c.show_alone.ensures.shows in
+    subst (λ (o : Option (List ℕ)). IfSome told (λ t. ShowsFor t c.args.format o c.args.after.now (asked_in c.args.bytes.now) r)) (sym (ap (option_map (λ p. p.now)) c.in-None.is)) asked
 
 pub returns-in-Some-clause-shows : goal.returns-in-Some-clause-shows
 returns-in-Some-clause-shows g c =
     let told : Option Told = g.F.Files.told c.args.files.now in
     let r = c.show_both.result in
     let path = c.in-Some.before.now in
-    let asked = subst (λ (qs : List Asked). IfSome told (λ t. ShowsFor t c.args.form (Some path) c.args.after.now qs r)) c.in_ok-asked.ensures c.show_both.ensures.shows in
-    subst (λ (o : Option (List ℕ)). IfSome told (λ t. ShowsFor t c.args.form o c.args.after.now (asked_in c.args.bytes.now) r)) (sym (ap (option_map (λ p. p.now)) c.in-Some.is)) asked
+    let asked = subst (λ (qs : List Asked). IfSome told (λ t. ShowsFor t c.args.format (Some path) c.args.after.now qs r)) c.in_ok-asked.ensures c.show_both.ensures.shows in
+    subst (λ (o : Option (List ℕ)). IfSome told (λ t. ShowsFor t c.args.format o c.args.after.now (asked_in c.args.bytes.now) r)) (sym (ap (option_map (λ p. p.now)) c.in-Some.is)) asked

@@ -12,11 +12,11 @@ returns-in-Ok-clause-shows g c =
     let told : Option Told = g.F.Files.told c.args.files.now in
     let asked = c.args.asked.items in
     let before = map Some c.args.before.items in
-    then_go (λ t r. GivesAnswers (λ (xs : List Answer). xs) t c.args.after.now (length asked) r) (λ t xs r. Views c.args.form true (answered_from 1 asked before xs) r) told c.in-Ok.answers.items c.view_since.result (subst (λ (n : ℕ). IfSome told (λ t. GivesAnswers {T = List Answer} (λ xs. xs) t c.args.after.now n (Ok c.in-Ok.answers.items))) (c.len.ensures ∙ c.args.asked.ok.0) c.in-Ok.ensures.answers) (however_told told c.view_since.ensures.views)
+    then_go (λ t r. GivesAnswers (λ (xs : List Answer). xs) t c.args.after.now (length asked) r) (λ t xs r. Views c.args.format true (answered_from 1 asked before xs) r) told c.in-Ok.answers.items c.view_since.result (subst (λ (n : ℕ). IfSome told (λ t. GivesAnswers {T = List Answer} (λ xs. xs) t c.args.after.now n (Ok c.in-Ok.answers.items))) (c.len.ensures ∙ c.args.asked.ok.0) c.in-Ok.ensures.answers) (however_told told c.view_since.ensures.views)
 
 pub returns-in-Err-clause-shows : goal.returns-in-Err-clause-shows
 returns-in-Err-clause-shows g c =
     let told : Option Told = g.F.Files.told c.args.files.now in
     let asked = c.args.asked.items in
     let before = map Some c.args.before.items in
-    then_stop {A = List Answer} (λ t r. GivesAnswers (λ (xs : List Answer). xs) t c.args.after.now (length asked) r) (λ t xs r. Views c.args.form true (answered_from 1 asked before xs) r) told c.in-Err.stop (subst (λ (n : ℕ). IfSome told (λ t. GivesAnswers {T = List Answer} (λ xs. xs) t c.args.after.now n (Err c.in-Err.stop))) (c.len.ensures ∙ c.args.asked.ok.0) c.in-Err.ensures.answers)
+    then_stop {A = List Answer} (λ t r. GivesAnswers (λ (xs : List Answer). xs) t c.args.after.now (length asked) r) (λ t xs r. Views c.args.format true (answered_from 1 asked before xs) r) told c.in-Err.stop (subst (λ (n : ℕ). IfSome told (λ t. GivesAnswers {T = List Answer} (λ xs. xs) t c.args.after.now n (Err c.in-Err.stop))) (c.len.ensures ∙ c.args.asked.ok.0) c.in-Err.ensures.answers)

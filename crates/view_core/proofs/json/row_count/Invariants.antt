@@ -1,9 +1,0 @@
-use Rattle.std.proofs.Common.{◌≡◌, ◌*◌, ◌^◌, ◌≤◌, take}
-use Rattle.report_text.specs.ReportText.{row_count}
-use Rattle.view_core.proofs.json.row_count.Given as goal
-
-abbrev pub invariant-loop-section : goal.invariant-loop-section
-invariant-loop-section l = record {
-  counted : l.rows ≡ row_count (take l.section-index l.sections);
-  small : l.rows ≤ 2 ^ 64 * l.section-index;
-}
