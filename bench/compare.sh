@@ -19,7 +19,7 @@ measure() {
 import os, subprocess, sys, time
 name, folder = sys.argv[1:]
 words = ["compare", folder + "/old", folder + "/new", folder + "/links"]
-programs = ["crates/review_cli/out/review_cli"] + [p for p in [os.environ.get("REVIEW")] if p]
+programs = ["build/proved/review"] + [p for p in [os.environ.get("REVIEW")] if p]
 
 
 def timed(program, *words):

@@ -5,8 +5,8 @@
 cd "$(dirname "$0")/.." || exit 1
 folder=$(mktemp -d) || exit 1
 trap 'rm -rf "$folder"' EXIT
-review=${DIQENYU_REVIEW:-crates/review_cli/out/review_cli}
-rollout=${DIQENYU_ROLLOUT:-crates/rollout_cli/out/rollout_cli}
+review=${DIQENYU_REVIEW:-build/proved/review}
+rollout=${DIQENYU_ROLLOUT:-build/proved/rollout}
 [ -x "$review" ] || ./review >/dev/null 2>&1
 [ -x "$rollout" ] || ./rollout >/dev/null 2>&1
 

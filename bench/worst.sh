@@ -6,7 +6,7 @@
 #                             MOST=600, after how many seconds a run is ended (status 124); READ_ALONE=1 compares nothing
 set -u
 cd "$(dirname "${BASH_SOURCE[0]}")/.." || exit 2
-program=${PROGRAM:-crates/review_cli/out/review_cli}
+program=${PROGRAM:-build/proved/review}
 scratch=$(mktemp -d) || exit 2
 trap 'rm -rf "$scratch"' EXIT
 kinds=("$@")

@@ -1,4 +1,4 @@
-# Completions of review, rollout, view, doctor, window and wire for bash: commands, options, files, and for trace the devices and interfaces of the folder
+# Completions of review, rollout, view, doctor, window, wire and prove for bash: commands, options, files, and for trace the devices and interfaces of the folder
 # that the line names. `source completions/diqenyu.bash` for one shell; `make install` for all.
 
 # The hostnames of a folder's configurations, and the interfaces of one device.
@@ -42,7 +42,7 @@ _diqenyu() {
     case ${1##*/} in
         *review)
             case ${#given[@]}:${given[0]:-} in
-                0:) words='compare ask trace read gen' ;;
+                0:) words='compare ask trace read gen' options=--version ;;
                 [123]:compare | [123]:ask | [12]:trace | 1:read) files=1 ;;
                 4:compare) files=1 ;;
                 3:trace) words=$(_diqenyu_devices "${given[1]}") ;;
@@ -56,9 +56,13 @@ _diqenyu() {
             ;;
         *rollout)
             case ${#given[@]}:${given[0]:-} in
-                0:) words='audit edits rollout variants' ;;
+                0:) words='audit edits rollout variants' options=--version ;;
                 1:audit | [1-3]:edits | [1-4]:rollout | [1-3]:variants) files=1 ;;
             esac
+            ;;
+        *prove)
+            words='review rollout view doctor'
+            [ "${#given[@]}" = 0 ] && options=--help
             ;;
         *doctor)
             [ "${#given[@]}" -lt 4 ] && files=1
@@ -93,4 +97,4 @@ _diqenyu() {
         mapfile -t COMPREPLY < <(compgen -W "$words" -- "$word")
     fi
 }
-complete -F _diqenyu review rollout view doctor window wire
+complete -F _diqenyu review rollout view doctor window wire prove

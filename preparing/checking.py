@@ -8,27 +8,32 @@ import re
 import subprocess
 import tempfile
 
+from launching.programs import NotBuilt, command, unproved_line
+
 from .blocks import blocks_of
-from .faults import CannotRead, Faults, Refused
+from .faults import CannotRead, Faults, NoProgram, Refused
 from .texts import Line, is_indented, to_bytes
 from .told import print_lines
 
-TOP = os.path.dirname(os.path.dirname(os.path.abspath(__file__)))
 REFUSAL = re.compile(r"refused (?P<path>.*) line (?P<line>\d+) (?P<kind>\w+) ?(?P<word>.*)")
 # More refusals than this of one file tell nothing more.
 MOST = 100
 
 
 def program():
-    """The program that reads: the launcher, or another that the environment names."""
-    return os.environ.get("DIQENYU_REVIEW") or os.path.join(TOP, "review")
+    """How the program that reads is called, before its words."""
+    try:
+        return command("review")
+    except NotBuilt as none:
+        raise NoProgram(none.told.strip()) from None
 
 
-def tell_first_run():
-    """Tells that the launcher will prove and build the verifier, where it hasn't been built yet: that takes its time."""
-    built = os.path.join(TOP, "crates", "review_cli", "out", "review_cli")
-    if not os.environ.get("DIQENYU_REVIEW") and not os.path.exists(built):
-        print_lines(["prepare: --check asks ./review, whose first run proves and builds it: some forty minutes on four cores"])
+def tell_unproved():
+    """Tells where the answers aren't those of a proved program."""
+    program()
+    line = unproved_line("prepare", ["review"]).rstrip("\n")
+    if line:
+        print_lines([line])
 
 
 def first_refusal(lines):
@@ -37,15 +42,15 @@ def first_refusal(lines):
         with open(os.path.join(folder, "device.cfg"), "wb") as file:
             file.write(to_bytes(lines))
         try:
-            done = subprocess.run([program(), "read", folder], capture_output=True, check=False)
+            done = subprocess.run([*program(), "read", folder], capture_output=True, check=False)
         except OSError as error:
-            raise CannotRead(program(), error.strerror) from None
+            raise CannotRead("review", error.strerror) from None
     if done.returncode == 0:
         return None
     told = done.stderr.decode("utf-8", "surrogateescape").strip().split("\n")[-1]
     found = REFUSAL.fullmatch(told)
     if done.returncode != 3 or found is None:
-        raise CannotRead(program(), told or "status %d" % done.returncode)
+        raise CannotRead("review", told or "status %d" % done.returncode)
     return int(found["line"]), found["kind"], found["word"]
 
 
@@ -79,7 +84,7 @@ def refusals(path, lines):
 
 def check(texts):
     """Raises what the verifier refuses in these texts, pairs of a path and its lines."""
-    tell_first_run()
+    tell_unproved()
     found = [fault for path, lines in texts for fault in refusals(path, lines)]
     if found:
         raise Faults(found)

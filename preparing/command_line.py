@@ -71,7 +71,7 @@ def end_with(work):
     try:
         print_lines(work())
     except Fault as fault:
-        print_lines([fault.line()])
+        print_lines([fault.line()] if fault.line() else [])
         return fault.status
     except Faults as several:
         print_lines([fault.line() for fault in several.faults])

@@ -53,6 +53,15 @@ class CannotRead(Fault):
         return "cannot read %s%s" % (self.path, ": " + self.reason if self.reason else "")
 
 
+class NoProgram(Fault):
+    """A program can't be built, or isn't there; `told` is the line that says so, or nothing where that is said already."""
+
+    status = 70
+
+    def __init__(self, told):
+        super().__init__(told)
+
+
 class CannotWrite(Fault):
     """The output takes nothing."""
 

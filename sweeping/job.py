@@ -55,7 +55,7 @@ def failure_result(plan, identity, scratch):
     if plan.command == "ask":
         return status, answer_difference(lines_of(plan.path("without")), lines_of(output)).encode("latin-1")
     shown = os.path.join(scratch, "shown")
-    shown_status, errors = run("view", [output], shown)
+    shown_status, errors = run("view", ["--json", output], shown)
     if shown_status != 0:
         return shown_status if shown_status > 1 else 70, errors
     return status, group_difference(groups_of(plan.path("without")), groups_of(shown)).encode("latin-1")

@@ -19,6 +19,7 @@ from gather import gather
 from plan import Plan, kit_name
 from words import read_words
 
+from launching import programs
 from preparing.marks import marks_told
 
 HERE = os.path.dirname(os.path.abspath(__file__))
@@ -37,34 +38,21 @@ class Stop(Exception):
 
 
 class Program:
-    """`review`, `view` or `rollout`: how it is called here, and the file that is copied for the jobs."""
+    """`review`, `view` or `rollout`, built: how it is called here, and the file that is copied for the jobs."""
 
     def __init__(self, name):
         self.name = name
-        given = os.environ.get("DIQENYU_" + name.upper())
-        self.given = given = given and os.path.abspath(given)
-        self.file = given or os.path.join(TOP, "crates", name + "_cli", "out", name + "_cli")
-        self.command = [os.path.join(TOP, "launch"), "--run", self.file] if given else [os.path.join(TOP, name)]
-        if given and not (os.path.isfile(given) and os.access(given, os.X_OK)):
-            raise Stop(70, "%s: no program %s\n" % (name, given))
+        try:
+            self.file, self.command = programs.find(name).path, programs.command(name)
+        except programs.NotBuilt as none:
+            raise Stop(70, none.told) from None
 
-    def is_built(self):
-        """Whether it is there already, built of today's sources."""
-        return bool(self.given) or subprocess.run([os.path.join(TOP, "launch"), "--built", self.name], stdin=subprocess.DEVNULL,
-                                                  stdout=subprocess.DEVNULL, stderr=subprocess.DEVNULL).returncode == 0
-
-    def build(self):
-        """Builds the program of the sources, where that isn't done, before any job starts: without words it says its usage alone."""
-        started = subprocess.Popen(self.command, stdin=subprocess.DEVNULL, stdout=subprocess.DEVNULL, stderr=subprocess.PIPE)
-        usage = told = False
-        for line in started.stderr:
-            usage = usage or line.startswith(b"usage")
-            if not usage:
-                told = True
-                sys.stderr.buffer.write(line)
-                sys.stderr.buffer.flush()
-        if started.wait() != 2:
-            raise Stop(started.returncode if started.returncode > 2 else 70, "" if told else "%s: the program doesn't start\n" % self.name)
+    def starts(self):
+        """Ends the sweep where the program doesn't start, before any job does: without words it says its usage alone."""
+        done = subprocess.run(self.command, stdin=subprocess.DEVNULL, stdout=subprocess.DEVNULL, stderr=subprocess.PIPE)
+        if done.returncode != 2:
+            told = done.stderr.decode("utf-8", "surrogateescape")
+            raise Stop(done.returncode if done.returncode > 2 else 70, told or "%s: the program doesn't start\n" % self.name)
 
     def run(self, words, path):
         """Runs it with its output in a file; ends the sweep with its own line and status where it gives no answer."""
@@ -129,10 +117,10 @@ def options_of(read):
     return ["--workers", read.workers or "1"] + (["--ttl", read.ttl] if read.ttl else [])
 
 
-def digest_of(read, inputs, programs):
+def digest_of(read, inputs, found):
     """A number that tells this sweep from any other: its words, its inputs, its programs."""
     digest = hashlib.sha256(json.dumps([read.words, options_of(read), bool(read.pairs), read.by_ingress, keeps_texts(read)]).encode("ascii"))
-    contents = list(inputs.items()) + [(program.name, read_file(program.file)) for program in programs]
+    contents = list(inputs.items()) + [(program.name, read_file(program.file)) for program in found]
     contents += [(script, read_file(os.path.join(HERE, script))) for script in SCRIPTS + ("windows.py",)]
     for name, text in contents:
         digest.update(b"%s %d\n" % (os.fsencode(name), len(text)))
@@ -191,32 +179,32 @@ def write_plan(kit, read, digest, inputs):
     write_file(os.path.join(kit, "plan.json"), json.dumps(plan).encode("ascii"))
 
 
-def answer(read, programs, kit, words):
+def answer(read, found, kit, words):
     """Runs the command without failure on these words, and keeps the answer in the kit, to compare with."""
-    review, *others = programs
+    review, *others = found
     output = os.path.join(kit, "output")
     review.run(words + (["--ttl", read.ttl] if read.ttl else []), output)
     if read.words[0] == "ask":
         os.replace(output, os.path.join(kit, "without"))
     else:
-        others[0].run([output], os.path.join(kit, "without"))
+        others[0].run(["--json", output], os.path.join(kit, "without"))
 
 
-def judge(read, programs, kit):
+def judge(read, found, kit):
     """Runs the command on the networks as they stand: what is refused is told as the program tells it, and nothing else is run. The
     answer is kept in the kit, to compare with. For parts of the ingresses it is enough that all is accepted: a TTL of 1 tells that soon."""
     if read.by_ingress:
-        programs[0].run(read.words + ["--ttl", "1"], os.path.join(kit, "output"))
+        found[0].run(read.words + ["--ttl", "1"], os.path.join(kit, "output"))
     else:
-        answer(read, programs, kit, read.words)
+        answer(read, found, kit, read.words)
 
 
-def make_kit(read, programs, digest, inputs, folder):
+def make_kit(read, found, digest, inputs, folder):
     """Writes all that the jobs read into the folder."""
     making = os.path.join(folder, "making")
     shutil.rmtree(making, ignore_errors=True)
     os.makedirs(making)
-    judge(read, programs, making)
+    judge(read, found, making)
     again = read_inputs(read)
     if inputs is None or again is None or dict(again.items()) != dict(inputs.items()):
         raise Stop(4, "sweep: files changed while they were read\n")
@@ -225,11 +213,11 @@ def make_kit(read, programs, digest, inputs, folder):
     for version in inputs.folders:
         os.makedirs(os.path.join(making, version), exist_ok=True)
     if inputs.written:
-        answer(read, programs, making, [read.words[0]] + [os.path.join(making, name) for name in inputs.paths])
+        answer(read, found, making, [read.words[0]] + [os.path.join(making, name) for name in inputs.paths])
     for script in SCRIPTS:
         shutil.copy(os.path.join(HERE, script), making)
     shutil.copy(os.path.join(TOP, "launch"), making)
-    for program in programs:
+    for program in found:
         shutil.copy(program.file, os.path.join(making, program.name))
     write_plan(making, read, digest, inputs)
     # The kit is there whole or not at all.
@@ -253,23 +241,26 @@ def hold(folder):
 
 
 def find_programs(read):
-    """The programs that the sweep runs, built, `review` before the others. It can do without `rollout`, which is not built for it; but
+    """The programs that the sweep runs, `review` before the others. It can do without `rollout`, which is not built for it; but
     where it is there, it is one of the sweep's, whatever runs the jobs, so that each way goes on with what another one has done."""
-    programs = [Program("review")] + ([Program("view")] if read.words[0] == "compare" and not read.by_ingress else [])
-    for program in programs:
-        program.build()
-    rollout = Program("rollout")
-    return programs + ([rollout] if read.words[0] == "ask" and rollout.is_built() else [])
+    names = ["review"] + (["view"] if read.words[0] == "compare" and not read.by_ingress else [])
+    found = [Program(name) for name in names]
+    for program in found:
+        program.starts()
+    if read.words[0] == "ask" and programs.standing("rollout"):
+        found.append(Program("rollout"))
+    sys.stderr.write(programs.unproved_line("sweep", [program.name for program in found]))
+    return found
 
 
 def prepare(read):
     """Finds the folder of this sweep, or makes it; gives the folder, the plan and what holds the folder."""
-    programs = find_programs(read)
+    found = find_programs(read)
     inputs = read_inputs(read)
     if inputs is None:
-        programs[0].run(read.words, os.devnull)
+        found[0].run(read.words, os.devnull)
         raise Stop(4, "sweep: files changed while they were read\n")
-    digest = digest_of(read, inputs, programs)
+    digest = digest_of(read, inputs, found)
     folder = os.path.abspath(read.folder or default_folder(read, digest))
     kit = os.path.join(folder, kit_name(digest))
     if not os.path.exists(kit):
@@ -278,7 +269,7 @@ def prepare(read):
     os.makedirs(os.path.join(folder, "results"), exist_ok=True)
     lock = hold(folder)
     if not os.path.exists(kit):
-        make_kit(read, programs, digest, inputs, folder)
+        make_kit(read, found, digest, inputs, folder)
     return folder, Plan(kit), lock
 
 
@@ -295,7 +286,7 @@ def show(read, folder, plan):
         shutil.rmtree(target, ignore_errors=True)
         failures.write_failed(plan.path(version), target, changes[version])
         paths[version] = target
-    program = os.path.abspath(os.environ.get("DIQENYU_REVIEW") or os.path.join(TOP, "review"))
+    program = os.path.abspath(programs.named("review") or os.path.join(TOP, "review"))
     words = [program, plan.command] + list(paths.values()) + (["--ttl", read.ttl] if read.ttl else [])
     sys.stdout.buffer.write(os.fsencode(" ".join(map(shlex.quote, words)) + "\n"))
     return 0

@@ -1,16 +1,29 @@
 """What programs wrote, and what of it differs on the day of a failure."""
+import json
+
+# The fields of an exit that may be replaced, in the order in which a report has them.
+REPLACED = ("src", "dst", "sport", "dport")
+
+
+def outcomes_text(outcomes):
+    """The outcomes of one side of a group as a report has them."""
+    texts = []
+    for outcome in outcomes:
+        words = [outcome[name] for name in ("end", "device", "interface") if name in outcome]
+        texts.append(" ".join(words + ["%s %s" % (name, outcome[name]) for name in REPLACED if name in outcome]))
+    return " | ".join(texts)
+
+
+def group_line(group):
+    """A group of the document of `view --json` as a line."""
+    return "%s  %s: %s -> %s\n" % (group["kind"], group["words"], outcomes_text(group["old"]), outcomes_text(group["new"]))
 
 
 def groups_of(path):
-    """What `view` shows: the groups of each ingress, as lines. A summary and all loops stand before these."""
-    groups, here = {}, None
-    with open(path, encoding="latin-1", newline="\n") as stream:
-        for line in stream:
-            if line.startswith("ingress "):
-                here = groups.setdefault(line.split(": ", 1)[0], [])
-            elif line.startswith("  ") and here is not None:
-                here.append(line[2:])
-    return groups
+    """The groups in what `view --json` wrote (docs/report-schema.json), as lines, by the ingresses."""
+    with open(path, encoding="ascii") as stream:
+        document = json.load(stream)
+    return {"ingress %s %s" % (one["device"], one["interface"]): list(map(group_line, one["groups"])) for one in document["ingresses"]}
 
 
 def group_difference(before, after):

@@ -52,6 +52,11 @@ campus=examples/campus
 offers "ask compare gen read trace" review ""
 offers "compare" ./review c
 offers "audit edits rollout variants" rollout ""
+offers "--version" review --
+offers "--version" rollout --
+offers "doctor review rollout view" ./prove ""
+offers "view" prove review v
+offers "--help" prove --
 offers "examples/edits/edits" rollout edits examples/list-entry/old examples/list-entry/links examples/edits/ed
 offers "" rollout edits a b c d
 offers "examples/rollout/steps examples/rollout/steps-leak examples/rollout/steps-loop" rollout rollout examples/rollout/net examples/rollout/links examples/rollout/questions examples/rollout/st

@@ -356,7 +356,8 @@ def program(name):
 
 def built(name):
     """The program of the sources, where it is built."""
-    return subprocess.run([os.path.join(TOP, "launch"), "--built", name], stdout=subprocess.PIPE).stdout.decode().strip()
+    told = subprocess.run([os.path.join(TOP, "launch"), "--state", name], stdout=subprocess.PIPE).stdout.decode().split("\n")
+    return told[1] if len(told) > 1 else ""
 
 
 def whole_results(folder):

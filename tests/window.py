@@ -203,7 +203,7 @@ class Windows(unittest.TestCase):
         self.assertTrue(output.encode().startswith(USAGE))
         status, output, errors = self.window("--version")
         self.assertEqual((status, errors), (0, ""))
-        self.assertEqual(output, "window of Diqenyu, schema 1\n")
+        self.assertEqual(output, "window of Diqenyu %s, schema 1\n" % open(os.path.join(TOP, "VERSION")).readline().strip())
 
     def test_interrupted(self):
         begun = os.path.join(self.scratch, "begun")

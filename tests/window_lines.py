@@ -21,7 +21,6 @@ TOP = os.path.dirname(os.path.dirname(os.path.abspath(__file__)))
 sys.dont_write_bytecode = True
 sys.path[:0] = [os.path.join(TOP, "tests"), os.path.join(TOP, "windowing")]
 
-import comparing  # noqa: E402
 import hunks  # noqa: E402
 import jobs  # noqa: E402
 import kinds  # noqa: E402
@@ -498,7 +497,7 @@ class Runs(Scratch):
         return self.path(name)
 
     def forget(self):
-        for known in (jobs.command, jobs.bounded, comparing.knows_variants):
+        for known in (jobs.command, jobs.bounded):
             known.cache_clear()
 
     def with_program(self, name, text):

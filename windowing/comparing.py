@@ -8,19 +8,17 @@ from __future__ import annotations
 import hashlib
 import os
 import re
-import subprocess
 from concurrent.futures import ProcessPoolExecutor
-from functools import lru_cache
 from typing import Iterable, NamedTuple, Sequence
 
 from cubes import Headers, by_outcome, sections, union
-from jobs import REFUSED, Job, Progress, Refused, command, gathered, is_built, processors, run_all
+from jobs import REFUSED, Job, Progress, Refused, gathered, is_built, processors, run_all
 from rendering import Network
 
 # Reports of more bytes than this, in all, are read by several processes.
 LONG = 2_000_000
-# The status of `rollout variants` where its files are more or longer than it takes.
-TOO_MUCH = 5
+# The statuses of `rollout variants` where its files are more or longer than it takes, and of a `rollout` that doesn't know the command.
+TOO_MUCH, UNKNOWN = 5, 2
 
 
 class Found(NamedTuple):
@@ -90,15 +88,6 @@ def read_all(pieces: Sequence[Piece], progress: Progress) -> list[Found]:
 # ---- variants of one network
 
 
-@lru_cache(maxsize=None)
-def knows_variants() -> bool:
-    """Whether `rollout` stands built and has the command `variants`."""
-    if not is_built("rollout"):
-        return False
-    usage = subprocess.run(command("rollout"), stdin=subprocess.DEVNULL, stdout=subprocess.DEVNULL, stderr=subprocess.PIPE).stderr
-    return b"\n  variants NET LINKS VARIANTS" in usage
-
-
 class Pair(NamedTuple):
     """Two networks to be compared."""
 
@@ -165,7 +154,7 @@ class Comparisons:
         """What each comparison says, or that one of its networks is refused. Equal ones are made once."""
         each = list(dict.fromkeys(pairs))
         # (a path in the text of variants has no blank)
-        groups = shared(each) if len(each) > 1 and len(self.work.split()) == 1 and knows_variants() else []
+        groups = shared(each) if len(each) > 1 and len(self.work.split()) == 1 and is_built("rollout") else []
         known: dict[int, Found | Refused] = {}
         singles = [number for number in range(len(each)) if not any(number in group.numbers for group in groups)]
         while groups or singles:
@@ -210,7 +199,7 @@ class Comparisons:
         with open(text, "w", encoding="utf-8", errors="surrogateescape") as stream:
             for line, _ in variant_lines(pairs, group):
                 stream.write(line + "\n")
-        return Job("rollout", ["variants", group.base.folder, group.base.links, text], self.path("report"), (REFUSED, TOO_MUCH))
+        return Job("rollout", ["variants", group.base.folder, group.base.links, text], self.path("report"), (REFUSED, TOO_MUCH, UNKNOWN))
 
     def taken(self, group: Variants, path: str, known: dict[int, Found | Refused]) -> list[tuple[int, Piece]]:
         """The reports of a group in what its run wrote; variants without a row have none."""

@@ -15,7 +15,7 @@ from concurrent.futures import FIRST_COMPLETED, Executor, Future, ThreadPoolExec
 from functools import lru_cache
 from typing import Callable, NamedTuple, Sequence, TypeVar
 
-from programs import TOP, Stop, command_of
+from programs import Stop, command_of, standing
 
 # After so many seconds a terminal is told how far the jobs are.
 PATIENCE = 2.0
@@ -69,24 +69,13 @@ def processors() -> int:
 
 @lru_cache(maxsize=None)
 def command(program: str) -> tuple[str, ...]:
-    """How a program that is called many times is called: the built file itself, where there is one of today's sources."""
-    built = "" if os.environ.get("DIQENYU_" + program.upper()) else built_file(program)
-    return (os.path.join(TOP, "launch"), "--run", built) if built else tuple(command_of(program))
-
-
-def built_file(program: str) -> str:
-    """Where the program stands built of today's sources; nothing where it doesn't."""
-    released = os.path.join(TOP, "programs", program)
-    if os.access(released, os.X_OK):
-        return released
-    told = subprocess.run([os.path.join(TOP, "launch"), "--built", program], stdin=subprocess.DEVNULL, stdout=subprocess.PIPE,
-                          stderr=subprocess.DEVNULL)
-    return told.stdout.decode("utf-8", "surrogateescape").strip() if told.returncode == 0 else ""
+    """How a program that is called many times is called."""
+    return tuple(command_of(program))
 
 
 def is_built(program: str) -> bool:
-    """Whether a program stands built, so that a call of it begins no proof."""
-    return bool(os.environ.get("DIQENYU_" + program.upper()) or built_file(program))
+    """Whether a program stands built and may be run."""
+    return standing(program) is not None
 
 
 @lru_cache(maxsize=None)

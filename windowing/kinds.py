@@ -4,7 +4,7 @@ from __future__ import annotations
 from functools import lru_cache
 from typing import Callable, Mapping, NamedTuple
 
-# From the most feared to the least feared. `view` has other kinds: it knows neither lans nor next hops.
+# From the most feared to the least feared. `view` has these without `unanswered` and `moves on a lan`: it knows neither lans nor next hops.
 KINDS = ("loops", "closes", "unanswered", "opens", "sometimes", "translated otherwise", "moves", "moves on a lan", "loop gone")
 
 # What becomes of the packets, in words.

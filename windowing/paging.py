@@ -20,7 +20,7 @@ from words import Words
 
 sys.path.insert(0, TOP)
 
-from showing import evidence, page  # noqa: E402
+from showing import evidence, page, rendering  # noqa: E402
 from showing.picture import Wiring  # noqa: E402
 
 # Of so many, what is missing first and then the most feared findings, both ways are traced; so many traces run at a time.
@@ -32,8 +32,8 @@ FILES = ("newlinks", "questions", "questions_new", "expect", "sources", "accept"
 def check() -> None:
     """Ends the run where the page can't be rendered."""
     try:
-        page.with_jinja()
-    except page.NoJinja:
+        rendering.with_jinja()
+    except rendering.NoJinja:
         raise Stop(70, b"window: Debian's package python3-jinja2 is missing\n") from None
 
 
@@ -153,6 +153,6 @@ class Paging:
             tables.append(page.File("links of " + name, "found in the configurations", size, evidence.sum_of(content)))
         traces = traces_of(document, deciding, self.brought)
         beside = page.Beside(
-            self.made(), ascii_of(self.command), tables, evidence.programs_of(TOP, ("review", "doctor")),
+            self.made(), ascii_of(self.command), tables, evidence.programs_of(("review", "doctor")),
             [ascii_of(self.brought.origins.rewritten(limit)) for limit in limits], wiring_of(deciding.networks()[1]), traces)
         return page.page_of(document, beside)

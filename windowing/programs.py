@@ -4,6 +4,9 @@ import subprocess
 import sys
 
 TOP = os.path.dirname(os.path.dirname(os.path.abspath(__file__)))
+sys.path.insert(0, TOP)
+
+from launching.programs import NOT_BUILT, NotBuilt, command, standing, unproved_line, version  # noqa: E402,F401
 
 
 class Stop(Exception):
@@ -16,14 +19,21 @@ class Stop(Exception):
 
 
 def command_of(name):
-    """How a program is called: by its launcher, or by the one that DIQENYU_NAME in the environment names."""
-    given = os.environ.get("DIQENYU_" + name.upper())
-    if not given:
-        return [os.path.join(TOP, name)]
-    given = os.path.abspath(given)
-    if not (os.path.isfile(given) and os.access(given, os.X_OK)):
-        raise Stop(70, b"%s: no program %s\n" % (os.fsencode(name), os.fsencode(given)))
-    return [os.path.join(TOP, "launch"), "--run", given]
+    """How a program is called, before its words."""
+    try:
+        return command(name)
+    except NotBuilt as none:
+        raise Stop(NOT_BUILT, none.told.encode("utf-8", "surrogateescape")) from None
+
+
+def tell_unproved(needed, others):
+    """Tells on one line which of these programs are not proved here; of the others those alone that stand built. Ends the window where one
+    that is needed can't be run."""
+    for name in needed:
+        command_of(name)
+    line = unproved_line("window", [*needed, *(name for name in others if standing(name))])
+    sys.stderr.buffer.write(line.encode("utf-8", "surrogateescape"))
+    sys.stderr.buffer.flush()
 
 
 def end_of(running):
@@ -44,6 +54,5 @@ def run(name, words, path):
     status = running.returncode if running.returncode >= 0 else 128 - running.returncode
     if status > 1:
         raise Stop(status, told or b"%s: status %d\n" % (os.fsencode(name), status))
-    # (what a launcher says of a program that it builds)
     sys.stderr.buffer.write(told)
     return status

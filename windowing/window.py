@@ -16,12 +16,9 @@ from causes import Unfaithful
 from comparing import found_in
 from deciding import Deciding, helped, no_causes
 from lines import find_causes
-from programs import Stop, run
+from programs import Stop, run, tell_unproved, version
 from statuses import causes_in, status_of
 from words import USAGE, Usage, read_words
-
-# Which program it is.
-VERSION = "window of Diqenyu, schema 1"
 
 
 class Window:
@@ -130,6 +127,7 @@ def look(words, given):
     fail_on = causes_in(words.fail_on)
     if words.page:
         paging.check()
+    tell_unproved(("doctor", "review"), ("rollout",))
     with tempfile.TemporaryDirectory(prefix="diqenyu-window-") as folder:
         brought = bring(words, folder)
         rests = paging.Paging(words, brought, given) if words.page else None
@@ -187,7 +185,7 @@ def answer(words):
         tell(USAGE.splitlines())
         return 0
     if words == ["--version"]:
-        tell([VERSION])
+        tell(["window of Diqenyu %s, schema %d" % (version(), documents.VERSION)])
         return 0
     return look(read_words(words), words)
 

@@ -4,6 +4,7 @@ from __future__ import annotations
 import os
 import sys
 
+from launching.programs import version
 from preparing.command_line import split_words
 from preparing.faults import CannotWrite, Fault, Faults, Usage
 from preparing.told import print_lines
@@ -18,7 +19,6 @@ USAGE = """usage:
   wire NET [--neighbors FOLDER] [--active FILE]
   wire NET --check LINKS [--neighbors FOLDER]
   wire --help | --version"""
-VERSION = "wire of Diqenyu, schema 1"
 
 
 def print_table(lines: list[str]) -> None:
@@ -44,7 +44,7 @@ def write_active(path: str, seen: Seen) -> None:
 def work(words: list[str]) -> int:
     """Does what the words ask; gives the status."""
     if words in (["--help"], ["--version"]):
-        print_table(USAGE.splitlines() if words == ["--help"] else [VERSION])
+        print_table(USAGE.splitlines() if words == ["--help"] else ["wire of Diqenyu %s, schema 1" % version()])
         return 0
     positional, options = split_words(words, ("--neighbors", "--check", "--active"), (), USAGE)
     if len(positional) != 1 or "--active" in options and ("--check" in options or "--neighbors" not in options):

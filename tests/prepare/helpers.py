@@ -11,7 +11,11 @@ import unittest
 TOP = os.path.dirname(os.path.dirname(os.path.dirname(os.path.abspath(__file__))))
 sys.path.insert(0, TOP)
 sys.path.insert(0, os.path.join(TOP, "tests"))
-BUILT = os.environ.get("DIQENYU_REVIEW") or os.path.join(TOP, "crates/review_cli/out/review_cli")
+
+from launching import programs  # noqa: E402
+
+STANDING = programs.standing("review")
+BUILT = STANDING.path if STANDING else ""
 needs_review = unittest.skipUnless(os.access(BUILT, os.X_OK), "the verifier isn't built; DIQENYU_REVIEW names another one")
 
 # The day of all tables of routes.

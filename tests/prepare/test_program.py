@@ -229,7 +229,7 @@ class Check(helpers.Folders):
         self.assertEqual(status, 0, told)
         done = subprocess.run([os.path.join(helpers.TOP, "prepare"), "raw", "more", "--check"], cwd=self.folder, capture_output=True, check=False,
                               env=dict(os.environ, DIQENYU_REVIEW="/no/such/program"))
-        self.assertEqual((done.returncode, done.stderr), (4, b"cannot read /no/such/program: No such file or directory\n"))
+        self.assertEqual((done.returncode, done.stderr), (70, b"review: no program /no/such/program\n"))
 
 
 if __name__ == "__main__":
