@@ -8,11 +8,10 @@
 # memory that there was, with both tables of a copy, and not what is in use.
 export MALLOC_MMAP_THRESHOLD_=131072
 cd "$(dirname "$0")/.." || exit 1
-test=${DIQENYU_TEST_LIVE:-crates/test_live/out/test_live}
-bench=${DIQENYU_BENCH_LIVE:-crates/bench_live/out/bench_live}
-[ -x "$test" ] || (cd crates/test_live && rt run) >/dev/null 2>&1
-[ -x "$bench" ] || (cd crates/bench_live && rt run) >/dev/null 2>&1
-"$test" 20 1000
+test=${DIQENYU_TEST_EDITS:-crates/test_edits/out/test_edits}
+[ -x "$test" ] || (cd crates/test_edits && rt run) >/dev/null 2>&1
+bench=$(bench/build live) || exit
+"$test" 20 1000 | grep -E "^(networks|ways|labels|visits) "
 for kind in route entry spine away; do
     echo "$kind:"
     "$bench" "${1:-16}" "${2:-1000}" "$kind" "${3:-1000}" time

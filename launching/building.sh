@@ -66,23 +66,29 @@ gives_up() {
     exit 1
 }
 
-# build_one NAME ROOM: builds a program, in a process of its own. The kit's way to run a program before its proof makes the whole program
+# compile FOLDER MADE: makes MADE/program of the crate in FOLDER. The kit's way to run a program before its proof makes the whole program
 # as one module, and compiles that without optimisation. The module is caught and compiled with it; its checks at run time stay in it.
-build_one() {
-    local caller=$1 made=$2 kit sources program=$unproved/$1
-    trap 'clean; exit 143' HUP INT TERM
-    trap - EXIT
-    rooms=()
+compile() {
+    local folder=$1 made=$2 kit
     kit=$(kit_folder)
-    sources=$(sum_of "$top" "$(kit_name)" "$caller" "${code_parts[@]}") || gives_up "a source can't be read"
     make_kit "$kit" "$made" 2>"$made/log" || gives_up "the kit can't be read" "$made/log"
-    step env -C "$top/crates/${caller}_cli" "$made/kit/bin/rt" try >"$made/log" 2>&1
+    step env -C "$folder" "$made/kit/bin/rt" try >"$made/log" 2>&1
     [ -s "$made/program.bc" ] || gives_up "its sources make no program" "$made/log"
     step "$kit/toolchain/bin/clang" --target=x86_64-unknown-linux-gnu --sysroot="$made/toolchain" -march=x86-64 -ffunction-sections \
         -fdata-sections -mllvm -trap-unreachable --no-default-config -no-canonical-prefixes -fintegrated-cc1 -c -x ir \
         "$made/program.bc" -o "$made/program.o" -fPIE -O1 2>"$made/log" || gives_up "$(tail -n 3 "$made/log")"
     step "$kit/bin/rattle-link" --target x86_64-unknown-linux-gnu --toolchain "$kit/toolchain" -o "$made/program" \
         "$made/program.o" "$kit/c/libos_c.a" "$kit/c/liblibc_c.a" 2>"$made/log" || gives_up "$(tail -n 3 "$made/log")"
+}
+
+# build_one NAME ROOM: builds a program, in a process of its own.
+build_one() {
+    local caller=$1 made=$2 sources program=$unproved/$1
+    trap 'clean; exit 143' HUP INT TERM
+    trap - EXIT
+    rooms=()
+    sources=$(sum_of "$top" "$(kit_name)" "$caller" "${code_parts[@]}") || gives_up "a source can't be read"
+    compile "$top/crates/${caller}_cli" "$made"
     [ "$(sum_of "$top" "$(kit_name)" "$caller" "${code_parts[@]}")" = "$sources" ] ||
         gives_up "a source changed meanwhile; the next call builds anew"
     rm -f "$program.made"
