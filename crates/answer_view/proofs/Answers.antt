@@ -18,7 +18,8 @@ use Rattle.report_text.proofs.Cuts.{has, either, Tail, cut_whole, next_back, ski
 use Rattle.report_text.proofs.Numerals.{all_digits, number_back, number_plain, address_back, address_plain, has_both}
 use Rattle.report_text.proofs.FieldLaws.{both}
 use Rattle.view_core.specs.Names.{text_lines}
-use Rattle.answer_view.specs.AnswerText.{answer_text, answers_from, fails, failed_count, failed_text, answers_text, HasPacket, AreAnswers}
+use Rattle.answer_view.specs.AnswerText.{HasPacket, AreAnswers}
+use Rattle.result_text.specs.AnswerText.{answer_text, answers_from, fails, failed_count, failed_text, answers_text}
 use Rattle.answer_view.specs.Said.{value_at, header_at, said_by, said_of, said_at, said_in}
 
 -- ---- headers

@@ -1,4 +1,3 @@
-pub mod TextLemmas
 pub mod Answers
 pub mod Paired
 pub mod ReadingLemmas

@@ -8,7 +8,8 @@ use Rattle.job_core.specs.declared.stop.Stop.{Stop}
 use Rattle.job_core.specs.declared.stop.Stop.TheVariants as stop
 use Rattle.view_core.specs.Names.{text_lines}
 use Rattle.view_core.specs.Reports.{GivesReport}
-use Rattle.answer_view.specs.AnswerText.{HasPacket, answers_text}
+use Rattle.answer_view.specs.AnswerText.{HasPacket}
+use Rattle.result_text.specs.AnswerText.{answers_text}
 use Rattle.answer_view.specs.Said.{said_at, said_in}
 use Rattle.answer_view.specs.Views.{IsFault, IsCounted, AnswersFail, SaysAnswers, GivesAnswers}
 use Rattle.answer_view.proofs.Answers.{no_list}

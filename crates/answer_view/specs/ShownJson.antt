@@ -4,7 +4,7 @@ use Rattle.std.specs.List.{join_by}
 use Rattle.hdr_bits.specs.declared.header.Header.{Header}
 use Rattle.net_types.specs.declared.question.Answer.{Answer}
 use Rattle.net_types.specs.declared.question.Answer.TheVariants.{Holds, Fails}
-use Rattle.view_core.specs.Json.{string_member, header_members}
+use Rattle.json_text.specs.Json.{string_member, header_members}
 use Rattle.answer_view.specs.declared.groups.Group.{Group}
 use Rattle.answer_view.specs.declared.answered.Answered.{Answered}
 use Rattle.answer_view.specs.Answered.{group_of, group_name, groups_of, count_in}

@@ -14,7 +14,8 @@ use Rattle.answer_view.specs.declared.answered.Answered.{Answered}
 use Rattle.view_core.specs.declared.words.Format.{Format}
 use Rattle.view_core.specs.declared.words.Format.TheVariants as format
 use Rattle.answer_view.specs.Asked.{asked_in}
-use Rattle.answer_view.specs.AnswerText.{AreAnswers, answers_text}
+use Rattle.answer_view.specs.AnswerText.{AreAnswers}
+use Rattle.result_text.specs.AnswerText.{answers_text}
 use Rattle.answer_view.specs.Said.{said_in}
 use Rattle.view_core.specs.Differing.{same_lines}
 use Rattle.answer_view.specs.Answered.{answered_from}

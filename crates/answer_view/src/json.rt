@@ -1,7 +1,7 @@
 //! Answers as one document of JSON.
 ghost use Rattle.std.specs.Prelude.{◌≡◌, ◌++◌, codes, IfOk, OnOk};
 ghost use Rattle.std.specs.List.{join_by};
-ghost use Rattle.view_core.specs.Json.{string_member, header_members};
+ghost use Rattle.json_text.specs.Json.{string_member, header_members};
 ghost use Rattle.answer_view.specs.Packet.{packet_words};
 ghost use Rattle.answer_view.specs.ShownJson.{packet_json, fails_json, answer_json, before_json, question_members, answer_members, question_json, count_member, json_front, counts_json, answers_json};
 
@@ -9,11 +9,11 @@ use crate::answered::Answered;
 use crate::groups::{Group, count_in, group_name, group_of, groups_of};
 use crate::packet::append_packet;
 use hdr_bits::Header;
+use json_text::{append_header_members, append_member};
 use net_types::{Answer, NoMemory};
 use report_text::TextPart::{Bytes, Number};
 use report_text::{append, append_all, append_number};
 use std::alloc::Global;
-use view_core::{append_header_members, append_member};
 
 // Each function adds a text at the end. Where memory runs out, a part of the text may stand there.
 

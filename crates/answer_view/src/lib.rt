@@ -10,7 +10,6 @@ mod groups;
 mod headers;
 mod json;
 mod packet;
-mod printed;
 mod reading;
 mod said;
 mod text;

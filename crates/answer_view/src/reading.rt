@@ -7,11 +7,11 @@ ghost use Rattle.answer_view.specs.AnswerText.{HasPacket};
 ghost use Rattle.answer_view.specs.Said.{said_in};
 ghost use Rattle.answer_view.specs.Views.{SaysAnswers, GivesAnswers, IsFault, IsCounted};
 
-use crate::printed::answers_bytes;
 use crate::said::answers_in;
 use job_core::Stop;
 use net_io::Files;
 use net_types::{Answer, NoMemory, Text};
+use result_text::answers_bytes;
 use std::alloc::Global;
 use view_core::{first_difference, lines_of, read_report_file};
 

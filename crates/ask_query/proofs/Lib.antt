@@ -4,6 +4,5 @@ pub mod SharedLemmas
 pub mod SlotLemmas
 pub mod LeafLemmas
 pub mod ReadingLemmas
-pub mod TextLemmas
 pub mod FieldLemmas
 pub mod DeviceLemmas

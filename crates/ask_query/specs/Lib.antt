@@ -6,4 +6,3 @@ pub mod Refusals
 pub mod Devices
 pub mod Fields
 pub mod Reading
-pub mod AnswerText

@@ -16,11 +16,9 @@ mod reading;
 mod refusal;
 mod shared;
 mod slots;
-mod text;
 mod workers;
 
 pub use asked::answer;
 pub use reading::read_questions;
 pub use refusal::{QuestionFail, QuestionRefusal};
-pub use text::{answers_bytes, failed_count};
 pub use workers::answers_by;

@@ -9,7 +9,8 @@ use Rattle.job_core.specs.declared.report.Report.{Report}
 use Rattle.job_core.specs.declared.stop.Stop.{Stop}
 use Rattle.job_core.specs.Steps.{Then, OrNoMemory}
 use Rattle.job_inputs.specs.Folders.{GivesFolder, AcceptedFolder}
-use Rattle.audit_core.specs.AuditText.{Audited, list_text, finding_count, audit_text}
+use Rattle.result_text.specs.AuditText.{list_text, finding_count, audit_text}
+use Rattle.audit_core.specs.AuditText.{Audited, audited_lists}
 use Rattle.audit_core.specs.Words.{net_of}
 
 -- the lists of a configuration with its file, in their order
@@ -32,16 +33,16 @@ pub record IsAudit (devices : List Loaded) (r : Report) : Type 0 where
   pub audited : List Audited
   pub every : map named audited ≡ lists_of devices
   pub right : All IsRight audited
-  pub text : r.text.items ≡ audit_text audited
-  pub affected : r.affected ≡ nat_lt 0 (finding_count audited)
+  pub text : r.text.items ≡ audit_text audited_lists audited
+  pub affected : r.affected ≡ nat_lt 0 (finding_count audited_lists audited)
 
 -- behind an old text the lists with their findings, which are counted on
 pub record Appends (lists : List (List ℕ × AccessList)) (old new : List ℕ) (before now : ℕ) : Type 0 where
   pub audited : List Audited
   pub every : map named audited ≡ lists
   pub right : All IsRight audited
-  pub text : new ≡ old ++ flat_map list_text audited
-  pub count : now ≡ before + finding_count audited
+  pub text : new ≡ old ++ flat_map (list_text audited_lists) audited
+  pub count : now ≡ before + finding_count audited_lists audited
 
 -- the folder, and then the audit
 abbrev pub Audits : Told → List ℕ → Result Report Stop → Type 0

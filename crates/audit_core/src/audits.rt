@@ -4,12 +4,13 @@ ghost use Rattle.job_core.specs.Causes.{HasCause, NamesLast};
 ghost use Rattle.job_core.specs.Steps.{OrNoMemory};
 ghost use Rattle.audit_core.specs.Audits.{Audits, IsAudit, Appends};
 
-use crate::text::{append_findings, append_total};
+use crate::text::append_findings;
 use acl_audit::audit;
 use job_core::{Report, Stop};
 use job_inputs::read_folder;
 use net_io::Files;
 use net_types::{AccessList, Loaded, NoMemory, Text};
+use result_text::append_total_line;
 use std::alloc::Global;
 
 /// The findings of all access lists of a folder's configurations.
@@ -45,7 +46,7 @@ fn report_of(alloc: Global, devices: &[Loaded]) -> Result<Report, NoMemory>
         let lists = device.config.lists.as_slice();
         count = append_lists(alloc, &mut text, &device.file, lists, count)?;
     }
-    append_total(&mut text, count)?;
+    append_total_line(&mut text, count as u128)?;
     Ok(Report {
         text,
         affected: count > 0,

@@ -1,17 +1,20 @@
 //! How findings are written.
 
-ghost use Rattle.std.specs.Prelude.{◌≡◌, ◌++◌, OnOk, decimal, length, filter, not};
+ghost use Rattle.std.specs.Prelude.{◌≡◌, ◌++◌, OnOk, length, filter, not};
 ghost use Rattle.std.specs.List.{flat_map};
-ghost use Rattle.audit_core.specs.AuditText.{is_dead, kind_text, row_text, by_text, taken_text, entry_text, finding_text, name_text, kinds_text, findings_text, total_text};
+ghost use Rattle.report_text.specs.FieldText.{cube_text};
+ghost use Rattle.result_text.specs.AuditText.{finding_text, findings_text, line, taken_text};
+ghost use Rattle.audit_core.specs.AuditText.{audited_lists, is_dead};
 
 use acl_audit::{Finding, FindingKind, Taken};
 use hdr_bits::Cube;
 use net_types::{NoMemory, Text};
-use report_text::{append, append_number, cube_bytes};
+use report_text::cube_bytes;
+use result_text::{append_by_line, append_entry_line, append_list_line, append_row_line};
 use std::alloc::Global;
 
 /// A list with its findings. Where memory runs out, a part of the text may stand there.
-#[tactic(auto, unfolding(crate::specs::AuditText::findings_text))]
+#[tactic(auto, unfolding(result_text::specs::AuditText::findings_text))]
 pub(crate) fn append_findings(
     alloc: Global,
     out: &mut Vec<u8>,
@@ -19,59 +22,24 @@ pub(crate) fn append_findings(
     name: &Text,
     findings: &[Finding],
 ) -> Result<(), NoMemory>
-    ensures { OnOk result (out.new.items ≡ out.old.items ++ findings_text file.now name.now findings.now) }
+    ensures { OnOk result (out.new.items ≡ out.old.items ++ findings_text audited_lists file.now name.now findings.now) }
 {
-    append_name(out, file, name)?;
-    append_kinds(out, findings)?;
-    append_each(alloc, out, findings)?;
-    Ok(())
+    let dead = dead_count(findings);
+    let redundant = redundant_count(findings);
+    append_list_line(out, file, name, dead, redundant)?;
+    append_each(alloc, out, findings)
 }
 
-/// The last line, with the number of all findings.
-#[tactic(auto, unfolding(crate::specs::AuditText::total_text))]
-pub(crate) fn append_total(out: &mut Vec<u8>, count: u64) -> Result<(), NoMemory>
-    ensures { OnOk result (out.new.items ≡ out.old.items ++ total_text count) }
-{
-    append(out, b"findings ")?;
-    append_number(out, count)?;
-    append(out, b"\n")?;
-    Ok(())
-}
-
-#[tactic(auto, unfolding(crate::specs::AuditText::name_text))]
-fn append_name(out: &mut Vec<u8>, file: &Text, name: &Text) -> Result<(), NoMemory>
-    ensures { OnOk result (out.new.items ≡ out.old.items ++ name_text file.now name.now) }
-{
-    append(out, b"list ")?;
-    append(out, file.as_bytes())?;
-    append(out, b" ")?;
-    append(out, name.as_bytes())?;
-    Ok(())
-}
-
-// How many findings there are of each kind.
-#[tactic(auto, unfolding(crate::specs::AuditText::kinds_text))]
-fn append_kinds(out: &mut Vec<u8>, findings: &[Finding]) -> Result<(), NoMemory>
-    ensures { OnOk result (out.new.items ≡ out.old.items ++ kinds_text findings.now) }
-{
-    append(out, b" dead ")?;
-    append_number(out, dead_count(findings))?;
-    append(out, b" redundant ")?;
-    append_number(out, redundant_count(findings))?;
-    append(out, b"\n")?;
-    Ok(())
-}
-
-fn dead_count(findings: &[Finding]) -> u64
+fn dead_count(findings: &[Finding]) -> usize
     ensures { result ≡ length (filter is_dead findings.now) }
 {
-    findings.iter().filter(|finding| is_dead(finding)).count() as u64
+    findings.iter().filter(|finding| is_dead(finding)).count()
 }
 
-fn redundant_count(findings: &[Finding]) -> u64
+fn redundant_count(findings: &[Finding]) -> usize
     ensures { result ≡ length (filter (λ f. not (is_dead f)) findings.now) }
 {
-    findings.iter().filter(|finding| !is_dead(finding)).count() as u64
+    findings.iter().filter(|finding| !is_dead(finding)).count()
 }
 
 fn is_dead(finding: &Finding) -> bool
@@ -85,7 +53,7 @@ fn is_dead(finding: &Finding) -> bool
 
 // The findings one after the other.
 fn append_each(alloc: Global, out: &mut Vec<u8>, findings: &[Finding]) -> Result<(), NoMemory>
-    ensures { OnOk result (out.new.items ≡ out.old.items ++ flat_map finding_text findings.now) }
+    ensures { OnOk result (out.new.items ≡ out.old.items ++ flat_map (finding_text audited_lists) findings.now) }
 {
     for finding in findings {
         append_finding(alloc, out, finding)?;
@@ -93,37 +61,17 @@ fn append_each(alloc: Global, out: &mut Vec<u8>, findings: &[Finding]) -> Result
     Ok(())
 }
 
-#[tactic(auto, unfolding(crate::specs::AuditText::finding_text))]
+#[tactic(auto, unfolding(result_text::specs::AuditText::finding_text))]
 fn append_finding(alloc: Global, out: &mut Vec<u8>, finding: &Finding) -> Result<(), NoMemory>
-    ensures { OnOk result (out.new.items ≡ out.old.items ++ finding_text finding.now) }
+    ensures { OnOk result (out.new.items ≡ out.old.items ++ finding_text audited_lists finding.now) }
 {
-    append_entry(out, finding)?;
-    append_all_taken(alloc, out, finding.taken.as_slice())?;
-    Ok(())
-}
-
-#[tactic(auto, unfolding(crate::specs::AuditText::entry_text))]
-fn append_entry(out: &mut Vec<u8>, finding: &Finding) -> Result<(), NoMemory>
-    ensures { OnOk result (out.new.items ≡ out.old.items ++ entry_text finding.now) }
-{
-    append(out, b"entry ")?;
-    append_number(out, u64::from(finding.sequence))?;
-    append(out, kind_text(finding.kind))?;
-    Ok(())
-}
-
-fn kind_text(kind: FindingKind) -> &'static [u8]
-    ensures { result.now ≡ kind_text kind }
-{
-    match kind {
-        FindingKind::Dead => b" dead\n",
-        FindingKind::Redundant => b" redundant\n",
-    }
+    append_entry_line(out, finding.sequence, is_dead(finding))?;
+    append_all_taken(alloc, out, finding.taken.as_slice())
 }
 
 // What each earlier entry takes.
 fn append_all_taken(alloc: Global, out: &mut Vec<u8>, taken: &[Taken]) -> Result<(), NoMemory>
-    ensures { OnOk result (out.new.items ≡ out.old.items ++ flat_map taken_text taken.now) }
+    ensures { OnOk result (out.new.items ≡ out.old.items ++ flat_map (taken_text audited_lists) taken.now) }
 {
     for one in taken {
         append_taken(alloc, out, one)?;
@@ -131,30 +79,17 @@ fn append_all_taken(alloc: Global, out: &mut Vec<u8>, taken: &[Taken]) -> Result
     Ok(())
 }
 
-#[tactic(auto, unfolding(crate::specs::AuditText::taken_text))]
+#[tactic(auto, unfolding(result_text::specs::AuditText::taken_text))]
 fn append_taken(alloc: Global, out: &mut Vec<u8>, taken: &Taken) -> Result<(), NoMemory>
-    ensures { OnOk result (out.new.items ≡ out.old.items ++ taken_text taken.now) }
+    ensures { OnOk result (out.new.items ≡ out.old.items ++ taken_text audited_lists taken.now) }
 {
-    append_by(out, taken)?;
-    append_rows(alloc, out, taken.rows.as_slice())?;
-    Ok(())
-}
-
-#[tactic(auto, unfolding(crate::specs::AuditText::by_text))]
-fn append_by(out: &mut Vec<u8>, taken: &Taken) -> Result<(), NoMemory>
-    ensures { OnOk result (out.new.items ≡ out.old.items ++ by_text taken.now) }
-{
-    append(out, b"by ")?;
-    append_number(out, u64::from(taken.sequence))?;
-    append(out, b" rows ")?;
-    append_number(out, taken.rows.as_slice().len() as u64)?;
-    append(out, b"\n")?;
-    Ok(())
+    append_by_line(out, taken.sequence, taken.rows.as_slice().len())?;
+    append_rows(alloc, out, taken.rows.as_slice())
 }
 
 // The rows, a line for each.
 fn append_rows(alloc: Global, out: &mut Vec<u8>, rows: &[Cube]) -> Result<(), NoMemory>
-    ensures { OnOk result (out.new.items ≡ out.old.items ++ flat_map row_text rows.now) }
+    ensures { OnOk result (out.new.items ≡ out.old.items ++ flat_map (λ r. line (cube_text r)) rows.now) }
 {
     for row in rows {
         append_row(alloc, out, row)?;
@@ -162,12 +97,9 @@ fn append_rows(alloc: Global, out: &mut Vec<u8>, rows: &[Cube]) -> Result<(), No
     Ok(())
 }
 
-#[tactic(auto, unfolding(crate::specs::AuditText::row_text))]
 fn append_row(alloc: Global, out: &mut Vec<u8>, row: &Cube) -> Result<(), NoMemory>
-    ensures { OnOk result (out.new.items ≡ out.old.items ++ row_text row.now) }
+    ensures { OnOk result (out.new.items ≡ out.old.items ++ line (cube_text row.now)) }
 {
     let cube = cube_bytes(alloc, row)?;
-    append(out, &cube)?;
-    append(out, b"\n")?;
-    Ok(())
+    append_row_line(out, &cube)
 }

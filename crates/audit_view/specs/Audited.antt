@@ -1,6 +1,7 @@
--- An audit of a folder's lists: how it is written, and which entries it may name.
-use Rattle.std.specs.Prelude.{ℕ, Bool, true, false, not, ◌==◌, List, [], ◌∷◌, ◌++◌, Option, is_some, map, filter, find, length, position, codes, decimal}
-use Rattle.std.specs.List.{flat_map, sum_by}
+-- An audit of a folder's lists: what is written of it, and which entries it may name.
+use Rattle.std.specs.Prelude.{ℕ, Bool, true, false, not, ◌==◌, List, [], ◌∷◌, Option, is_some, map, find, position}
+use Rattle.std.specs.List.{flat_map}
+use Rattle.result_text.specs.AuditText.{Findings}
 use Rattle.audit_view.specs.declared.audited.AuditedList.{AuditedList}
 use Rattle.audit_view.specs.declared.findings.Finding.{Finding}
 use Rattle.audit_view.specs.declared.findings.Taken.{Taken}
@@ -15,7 +16,7 @@ with_findings [] said = []
 with_findings (l ∷ ls) [] = record { list = l; findings = [] } ∷ with_findings ls []
 with_findings (l ∷ ls) (fs ∷ said) = record { list = l; findings = fs } ∷ with_findings ls said
 
--- ---- kinds
+-- ---- how `rollout audit` writes it
 
 abbrev pub is_dead_kind : Kind → Bool
 is_dead_kind kind.Dead = true
@@ -24,37 +25,19 @@ is_dead_kind kind.Redundant = false
 abbrev pub is_dead : Finding → Bool
 is_dead f = is_dead_kind f.kind
 
-abbrev pub kind_name : Kind → List ℕ
-kind_name kind.Dead = codes "dead"
-kind_name kind.Redundant = codes "redundant"
-
--- ---- how `rollout audit` writes it
-
--- a row is a line of its own
-abbrev pub row_print : List ℕ → List ℕ
-row_print row = row ++ codes "\n"
-
-unfoldable pub taken_print : Taken → List ℕ
-taken_print t = codes "by " ++ decimal t.sequence ++ codes " rows " ++ decimal (length t.rows) ++ codes "\n" ++ flat_map row_print t.rows
-
-unfoldable pub finding_print : Finding → List ℕ
-finding_print f = codes "entry " ++ decimal f.sequence ++ codes " " ++ kind_name f.kind ++ codes "\n" ++ flat_map taken_print f.taken
-
--- the line of a list
-unfoldable pub name_print : FolderList → List ℕ
-name_print l = codes "list " ++ l.file ++ codes " " ++ l.name
-
-unfoldable pub kinds_print : List Finding → List ℕ
-kinds_print fs =
-    codes " dead " ++ decimal (length (filter is_dead fs))
-    ++ codes " redundant " ++ decimal (length (filter (λ f. not (is_dead f)) fs)) ++ codes "\n"
-
-unfoldable pub list_print : AuditedList → List ℕ
-list_print a = name_print a.list ++ kinds_print a.findings ++ flat_map finding_print a.findings
-
--- the lists one after the other, and the number of all findings
-unfoldable pub audit_print : List AuditedList → List ℕ
-audit_print audited = flat_map list_print audited ++ codes "findings " ++ decimal (sum_by (λ a. length a.findings) audited) ++ codes "\n"
+-- a row is written as it was read
+abbrev pub audited_lists : Findings AuditedList Finding Taken (List ℕ)
+audited_lists = record {
+  file = λ a. a.list.file;
+  name = λ a. a.list.name;
+  findings = λ a. a.findings;
+  sequence = λ f. f.sequence;
+  is_dead = is_dead;
+  taken = λ f. f.taken;
+  by = λ t. t.sequence;
+  rows = λ t. t.rows;
+  row = λ row. row;
+}
 
 -- ---- entries
 

@@ -1,13 +1,14 @@
 -- An audit as one document of JSON.
 use Rattle.std.specs.Prelude.{ℕ, Bool, true, false, List, [], ◌++◌, length, codes, decimal, if◌then◌else◌}
 use Rattle.std.specs.List.{join_by}
-use Rattle.view_core.specs.Json.{string_text, string_member}
+use Rattle.json_text.specs.Json.{string_text, string_member}
 use Rattle.audit_view.specs.declared.audited.AuditedList.{AuditedList}
 use Rattle.audit_view.specs.declared.findings.Finding.{Finding}
 use Rattle.audit_view.specs.declared.findings.Taken.{Taken}
 use Rattle.audit_view.specs.declared.groups.Group.TheVariants as group
 use Rattle.audit_view.specs.declared.lists.FolderList.{FolderList}
-use Rattle.audit_view.specs.Audited.{kind_name}
+use Rattle.result_text.specs.AuditText.{kind_name}
+use Rattle.audit_view.specs.Audited.{is_dead}
 use Rattle.audit_view.specs.Shown.{is_in, count_in, total}
 use Rattle.audit_view.specs.ShownText.{line_of, text_of}
 
@@ -36,7 +37,7 @@ counts_json dead redundant closing =
 -- a finding
 unfoldable pub finding_json : Bool → FolderList → Finding → List ℕ
 finding_json rows l f =
-    codes "{" ++ entry_members l f.sequence ++ codes ", " ++ string_member (codes "kind") (kind_name f.kind)
+    codes "{" ++ entry_members l f.sequence ++ codes ", " ++ string_member (codes "kind") (kind_name (is_dead f))
     ++ codes ", \"closing\": " ++ bool_text (is_in group.Closing l f)
     ++ codes ", \"by\": [" ++ join_by (taken_json rows l) (codes ", ") f.taken ++ codes "]}"
 

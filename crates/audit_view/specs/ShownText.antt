@@ -7,7 +7,8 @@ use Rattle.audit_view.specs.declared.findings.Taken.{Taken}
 use Rattle.audit_view.specs.declared.groups.Group.TheVariants as group
 use Rattle.audit_view.specs.declared.lists.FolderList.{FolderList}
 use Rattle.audit_view.specs.declared.lists.ListEntry.{ListEntry}
-use Rattle.audit_view.specs.Audited.{kind_name, entry_of}
+use Rattle.result_text.specs.AuditText.{kind_name}
+use Rattle.audit_view.specs.Audited.{is_dead, entry_of}
 use Rattle.audit_view.specs.Shown.{is_in, count_in, total, has_findings, lists_with_findings}
 
 -- ---- entries
@@ -72,7 +73,7 @@ taken_text rows l t =
 -- a finding: the entry's own line, and what takes its packets
 unfoldable pub finding_text : Bool → FolderList → Finding → List ℕ
 finding_text rows l f =
-    codes "  line " ++ line_of l f.sequence ++ codes " " ++ kind_name f.kind
+    codes "  line " ++ line_of l f.sequence ++ codes " " ++ kind_name (is_dead f)
     ++ codes ": " ++ text_of l f.sequence ++ codes "\n"
     ++ flat_map (taken_text rows l) f.taken
 

@@ -16,7 +16,8 @@ use Rattle.audit_view.specs.declared.lists.FolderList.{FolderList}
 use Rattle.audit_view.specs.declared.words.Manner.{Manner}
 use Rattle.audit_view.specs.Lists.{lists_of}
 use Rattle.audit_view.specs.Said.{said_in}
-use Rattle.audit_view.specs.Audited.{with_findings, audit_print, first_unknown}
+use Rattle.result_text.specs.AuditText.{audit_text}
+use Rattle.audit_view.specs.Audited.{with_findings, audited_lists, first_unknown}
 use Rattle.view_core.specs.Differing.{same_lines}
 use Rattle.audit_view.specs.ShownText.{view_text}
 use Rattle.audit_view.specs.ShownJson.{audit_json}
@@ -40,13 +41,13 @@ audited_by lists bytes = with_findings lists (reverse (said_in (text_lines bytes
 
 -- the bytes are what an audit writes with these findings, and no line names an entry that its list hasn't
 pub record IsAudit (audited : List AuditedList) (bytes : List ℕ) : Type 0 where
-  pub written : audit_print audited ≡ bytes
+  pub written : audit_text audited_lists audited ≡ bytes
   pub known : first_unknown audited ≡ None
 
 -- it is written otherwise: first at this line, from 1
 pub record IsOther (audited : List AuditedList) (bytes : List ℕ) (line : ℕ) : Type 0 where
-  pub other : audit_print audited ≢ bytes
-  pub place : line ≡ same_lines (text_lines bytes) (text_lines (audit_print audited)) + 1
+  pub other : audit_text audited_lists audited ≢ bytes
+  pub place : line ≡ same_lines (text_lines bytes) (text_lines (audit_text audited_lists audited)) + 1
 
 -- a line names an entry that its list hasn't: this is the first, from 1
 pub record IsUnknown (audited : List AuditedList) (line : ℕ) : Type 0 where

@@ -1,7 +1,7 @@
 //! An audit as one document of JSON.
 ghost use Rattle.std.specs.Prelude.{◌≡◌, ◌++◌, codes, IfOk, OnOk};
 ghost use Rattle.std.specs.List.{join_by};
-ghost use Rattle.view_core.specs.Json.{string_text, key, string_member};
+ghost use Rattle.json_text.specs.Json.{string_text, key, string_member};
 ghost use Rattle.audit_view.specs.ShownJson.{entry_members, rows_member, taken_json, counts_json, finding_json, list_json, audit_json, bool_text};
 ghost use Rattle.audit_view.specs.ShownText.{text_of};
 
@@ -12,10 +12,10 @@ use crate::lists::FolderList;
 use crate::printed::kind_name;
 use crate::text::append_line;
 use crate::unknown::entry_of;
+use json_text::{append_member, append_string};
 use net_types::{NoMemory, Text};
 use report_text::{append, append_number};
 use std::alloc::Global;
-use view_core::{append_member, append_string};
 
 /// The document: exactly the lists of the folder with their findings.
 #[tactic(auto, unfolding(crate::specs::ShownJson::audit_json))]
@@ -127,7 +127,7 @@ fn append_finding(
     append(out, b"{")?;
     append_entry(out, list, finding.sequence)?;
     append(out, b", ")?;
-    append_member(out, b"kind", kind_name(finding.kind))?;
+    append_member(out, b"kind", kind_name(finding))?;
     append(out, b", \"closing\": ")?;
     append(out, bool_text(is_in(Group::Closing, list, finding)))?;
     append(out, b", \"by\": [")?;

@@ -1,38 +1,33 @@
 //! An audit as it is written by the program that makes it.
 ghost use Rattle.std.specs.Prelude.{◌≡◌, ◌++◌, not, length, filter, IfOk, OnOk};
-ghost use Rattle.std.specs.List.{flat_map, sum_by};
-ghost use Rattle.audit_view.specs.Audited.{is_dead, is_dead_kind, kind_name, row_print, taken_print, finding_print, name_print, kinds_print, list_print, audit_print};
+ghost use Rattle.std.specs.List.{flat_map};
+ghost use Rattle.result_text.specs.AuditText.{audit_text, finding_count, finding_text, findings_text, kind_name, line, list_text, taken_text};
+ghost use Rattle.audit_view.specs.Audited.{audited_lists, is_dead};
 
 use crate::audited::AuditedList;
 use crate::findings::{Finding, Taken};
 use crate::lists::FolderList;
 use crate::said::Kind;
 use net_types::{NoMemory, Text};
-use report_text::TextPart::{Bytes, Number};
-use report_text::{append, append_all};
+use result_text::{
+    append_by_line, append_entry_line, append_list_line, append_row_line, append_total_line,
+};
 use std::alloc::Global;
 
 /// The text of an audit with these findings.
-#[tactic(auto, unfolding(crate::specs::Audited::audit_print))]
+#[tactic(auto, unfolding(result_text::specs::AuditText::audit_text))]
 pub(crate) fn audit_bytes(alloc: Global, audited: &[AuditedList]) -> Result<Vec<u8>, NoMemory>
-    ensures { IfOk result (λ text. text.items ≡ audit_print audited.now) }
+    ensures { IfOk result (λ text. text.items ≡ audit_text audited_lists audited.now) }
 {
     let mut text = Vec::new(alloc);
     append_lists(&mut text, audited)?;
-    append_all(
-        &mut text,
-        &[
-            Bytes(b"findings "),
-            Number(finding_count(audited)),
-            Bytes(b"\n"),
-        ],
-    )?;
+    append_total_line(&mut text, finding_count(audited))?;
     Ok(text)
 }
 
 /// How many findings there are.
 pub(crate) fn finding_count(audited: &[AuditedList]) -> u128
-    ensures { result ≡ sum_by (λ a. length a.findings) audited.now }
+    ensures { result ≡ finding_count audited_lists audited.now }
 {
     let mut count: u128 = 0;
     for one in audited {
@@ -42,7 +37,7 @@ pub(crate) fn finding_count(audited: &[AuditedList]) -> u128
 }
 
 fn append_lists(out: &mut Vec<u8>, audited: &[AuditedList]) -> Result<(), NoMemory>
-    ensures { OnOk result (out.new.items ≡ out.old.items ++ flat_map list_print audited.now) }
+    ensures { OnOk result (out.new.items ≡ out.old.items ++ flat_map (list_text audited_lists) audited.now) }
 {
     for one in audited {
         append_list(out, one)?;
@@ -50,64 +45,38 @@ fn append_lists(out: &mut Vec<u8>, audited: &[AuditedList]) -> Result<(), NoMemo
     Ok(())
 }
 
-#[tactic(auto, unfolding(crate::specs::Audited::list_print))]
 fn append_list(out: &mut Vec<u8>, audited: &AuditedList) -> Result<(), NoMemory>
-    ensures { OnOk result (out.new.items ≡ out.old.items ++ list_print audited.now) }
+    ensures { OnOk result (out.new.items ≡ out.old.items ++ list_text audited_lists audited.now) }
 {
-    append_name(out, &audited.list)?;
-    append_kinds(out, audited.findings.as_slice())?;
-    append_findings(out, audited.findings.as_slice())?;
-    Ok(())
+    append_with(out, &audited.list, audited.findings.as_slice())
 }
 
-#[tactic(auto, unfolding(crate::specs::Audited::name_print))]
-fn append_name(out: &mut Vec<u8>, list: &FolderList) -> Result<(), NoMemory>
-    ensures { OnOk result (out.new.items ≡ out.old.items ++ name_print list.now) }
+#[tactic(auto, unfolding(result_text::specs::AuditText::findings_text))]
+fn append_with(out: &mut Vec<u8>, list: &FolderList, findings: &[Finding]) -> Result<(), NoMemory>
+    ensures { OnOk result (out.new.items ≡ out.old.items ++ findings_text audited_lists list.now.file list.now.name findings.now) }
 {
-    append_all(
-        out,
-        &[
-            Bytes(b"list "),
-            Bytes(list.file.as_bytes()),
-            Bytes(b" "),
-            Bytes(list.name.as_bytes()),
-        ],
-    )
-}
-
-// How many findings there are of each kind.
-#[tactic(auto, unfolding(crate::specs::Audited::kinds_print))]
-fn append_kinds(out: &mut Vec<u8>, findings: &[Finding]) -> Result<(), NoMemory>
-    ensures { OnOk result (out.new.items ≡ out.old.items ++ kinds_print findings.now) }
-{
-    append_all(
-        out,
-        &[
-            Bytes(b" dead "),
-            Number(dead_count(findings) as u128),
-            Bytes(b" redundant "),
-            Number(redundant_count(findings) as u128),
-            Bytes(b"\n"),
-        ],
-    )
+    let dead = dead_count(findings);
+    let redundant = redundant_count(findings);
+    append_list_line(out, &list.file, &list.name, dead, redundant)?;
+    append_findings(out, findings)
 }
 
 /// How many of the findings are dead entries.
-pub(crate) fn dead_count(findings: &[Finding]) -> usize
+fn dead_count(findings: &[Finding]) -> usize
     ensures { result ≡ length (filter is_dead findings.now) }
 {
     findings.iter().filter(|finding| is_dead(finding)).count()
 }
 
 /// How many of them are redundant ones.
-pub(crate) fn redundant_count(findings: &[Finding]) -> usize
+fn redundant_count(findings: &[Finding]) -> usize
     ensures { result ≡ length (filter (λ f. not (is_dead f)) findings.now) }
 {
     findings.iter().filter(|finding| !is_dead(finding)).count()
 }
 
 /// Whether the entry is dead.
-pub(crate) fn is_dead(finding: &Finding) -> bool
+fn is_dead(finding: &Finding) -> bool
     ensures { result ≡ is_dead finding.now }
 {
     match finding.kind {
@@ -116,18 +85,15 @@ pub(crate) fn is_dead(finding: &Finding) -> bool
     }
 }
 
-/// The name of a kind.
-pub(crate) fn kind_name(kind: Kind) -> &'static [u8]
-    ensures { result.now ≡ kind_name kind }
+/// What a finding is called.
+pub(crate) fn kind_name(finding: &Finding) -> &'static [u8]
+    ensures { result.now ≡ kind_name (is_dead finding.now) }
 {
-    match kind {
-        Kind::Dead => b"dead",
-        Kind::Redundant => b"redundant",
-    }
+    result_text::kind_name(is_dead(finding))
 }
 
 fn append_findings(out: &mut Vec<u8>, findings: &[Finding]) -> Result<(), NoMemory>
-    ensures { OnOk result (out.new.items ≡ out.old.items ++ flat_map finding_print findings.now) }
+    ensures { OnOk result (out.new.items ≡ out.old.items ++ flat_map (finding_text audited_lists) findings.now) }
 {
     for finding in findings {
         append_finding(out, finding)?;
@@ -135,25 +101,16 @@ fn append_findings(out: &mut Vec<u8>, findings: &[Finding]) -> Result<(), NoMemo
     Ok(())
 }
 
-#[tactic(auto, unfolding(crate::specs::Audited::finding_print))]
+#[tactic(auto, unfolding(result_text::specs::AuditText::finding_text))]
 fn append_finding(out: &mut Vec<u8>, finding: &Finding) -> Result<(), NoMemory>
-    ensures { OnOk result (out.new.items ≡ out.old.items ++ finding_print finding.now) }
+    ensures { OnOk result (out.new.items ≡ out.old.items ++ finding_text audited_lists finding.now) }
 {
-    append_all(
-        out,
-        &[
-            Bytes(b"entry "),
-            Number(finding.sequence.into()),
-            Bytes(b" "),
-            Bytes(kind_name(finding.kind)),
-            Bytes(b"\n"),
-        ],
-    )?;
+    append_entry_line(out, finding.sequence, is_dead(finding))?;
     append_all_taken(out, finding.taken.as_slice())
 }
 
 fn append_all_taken(out: &mut Vec<u8>, taken: &[Taken]) -> Result<(), NoMemory>
-    ensures { OnOk result (out.new.items ≡ out.old.items ++ flat_map taken_print taken.now) }
+    ensures { OnOk result (out.new.items ≡ out.old.items ++ flat_map (taken_text audited_lists) taken.now) }
 {
     for one in taken {
         append_taken(out, one)?;
@@ -161,35 +118,19 @@ fn append_all_taken(out: &mut Vec<u8>, taken: &[Taken]) -> Result<(), NoMemory>
     Ok(())
 }
 
-#[tactic(auto, unfolding(crate::specs::Audited::taken_print))]
+#[tactic(auto, unfolding(result_text::specs::AuditText::taken_text))]
 fn append_taken(out: &mut Vec<u8>, taken: &Taken) -> Result<(), NoMemory>
-    ensures { OnOk result (out.new.items ≡ out.old.items ++ taken_print taken.now) }
+    ensures { OnOk result (out.new.items ≡ out.old.items ++ taken_text audited_lists taken.now) }
 {
-    append_all(
-        out,
-        &[
-            Bytes(b"by "),
-            Number(taken.sequence.into()),
-            Bytes(b" rows "),
-            Number(taken.rows.as_slice().len() as u128),
-            Bytes(b"\n"),
-        ],
-    )?;
+    append_by_line(out, taken.sequence, taken.rows.as_slice().len())?;
     append_rows(out, taken.rows.as_slice())
 }
 
 fn append_rows(out: &mut Vec<u8>, rows: &[Text]) -> Result<(), NoMemory>
-    ensures { OnOk result (out.new.items ≡ out.old.items ++ flat_map row_print rows.now) }
+    ensures { OnOk result (out.new.items ≡ out.old.items ++ flat_map line rows.now) }
 {
     for row in rows {
-        append_row(out, row)?;
+        append_row_line(out, row.as_bytes())?;
     }
     Ok(())
-}
-
-fn append_row(out: &mut Vec<u8>, row: &Text) -> Result<(), NoMemory>
-    ensures { OnOk result (out.new.items ≡ out.old.items ++ row_print row.now) }
-{
-    append(out, row.as_bytes())?;
-    append(out, b"\n")
 }

@@ -191,10 +191,7 @@ fn append_finding(
 {
     append(out, b"  line ")?;
     append_line(out, list, finding.sequence)?;
-    append_all(
-        out,
-        &[Bytes(b" "), Bytes(kind_name(finding.kind)), Bytes(b": ")],
-    )?;
+    append_all(out, &[Bytes(b" "), Bytes(kind_name(finding)), Bytes(b": ")])?;
     append_text(out, list, finding.sequence)?;
     append(out, b"\n")?;
     append_all_taken(out, list, finding.taken.as_slice(), rows)

@@ -26,7 +26,7 @@ use Rattle.walk_trace.specs.Traced.{traced}
 use Rattle.walk_trace.specs.TraceText.{trace_text}
 use Rattle.ask_query.specs.declared.refusal.QuestionRefusal.{QuestionRefusal}
 use Rattle.ask_query.specs.declared.refusal.QuestionFail.TheVariants as fail
-use Rattle.ask_query.specs.AnswerText.{answers_text, failed_count}
+use Rattle.result_text.specs.AnswerText.{answers_text, failed_count}
 use Rattle.ask_query.specs.Reading.{questions_of, said}
 use Rattle.ask_query.specs.Refusals.{refusal_text}
 use Rattle.job_core.specs.declared.report.Report.{Report}

@@ -10,12 +10,13 @@ ghost use Rattle.job_core.specs.Causes.{HasCause, NamesLast, WasRead};
 ghost use Rattle.job_core.specs.Steps.{OrNoMemory};
 ghost use Rattle.review_core.specs.Job.{Asks, AsksOn, AsksOver, AsksWith, IsAnswering, asked_network};
 
-use ask_query::{QuestionFail, answer, answers_bytes, failed_count, read_questions};
+use ask_query::{QuestionFail, answer, read_questions};
 use job_core::{Report, Stop, Wires, read_bytes, read_table};
 use job_inputs::read_folder_by_workers;
 use net_io::Files;
 use net_load::{Numbered, number_all};
 use net_types::{Loaded, NoMemory, Question};
+use result_text::{answers_bytes, failed_count};
 use review_args::Asking;
 use std::alloc::Global;
 use std::sync::Wait;

@@ -13,7 +13,7 @@ use Rattle.view_core.specs.declared.fields.Kind.{Kind}
 use Rattle.view_core.specs.declared.fields.Kind.TheVariants as kind
 use Rattle.view_core.specs.FieldWords.{is_open, width_of, values_text, service_of, source_kind, flags_text, words_text}
 use Rattle.view_core.specs.Groups.{change_words}
-use Rattle.view_core.specs.Json.{key, string_text, string_member, outcomes_text}
+use Rattle.json_text.specs.Json.{key, string_text, string_member, outcomes_text}
 
 -- ---- the fields in words
 

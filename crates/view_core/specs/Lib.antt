@@ -5,8 +5,6 @@ pub mod Ingresses
 pub mod Groups
 pub mod Words
 pub mod Reports
-pub mod Json
-pub mod Chunks
 pub mod Tallies
 pub mod Counts
 pub mod NumberNames

@@ -7,11 +7,11 @@ use Rattle.report_groups.specs.declared.types.Change.{Change}
 use Rattle.report_groups.specs.declared.types.Entry.{Entry}
 use Rattle.view_core.specs.declared.ingresses.Ingress.{Ingress}
 use Rattle.view_core.specs.declared.tallies.Tally.{Tally}
-use Rattle.view_core.specs.Chunks.{count_text}
+use Rattle.json_text.specs.Chunks.{count_text}
 use Rattle.view_core.specs.Groups.{change_words}
 use Rattle.view_core.specs.GroupJson.{group_object}
 use Rattle.view_core.specs.Ingresses.{untouched, group_count, kind_total, all_rows}
-use Rattle.view_core.specs.Json.{place_members, row_text, string_member}
+use Rattle.json_text.specs.Json.{place_members, row_text, string_member}
 use Rattle.view_core.specs.Kinds.{kinds, in_order}
 use Rattle.view_core.specs.Tallies.{tallies, version_words}
 

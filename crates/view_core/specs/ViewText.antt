@@ -9,7 +9,7 @@ use Rattle.report_text.specs.ReportText.{place_text}
 use Rattle.view_core.specs.declared.ingresses.Ingress.{Ingress}
 use Rattle.view_core.specs.declared.tallies.Count.{Count}
 use Rattle.view_core.specs.declared.tallies.Tally.{Tally}
-use Rattle.view_core.specs.Chunks.{count_text}
+use Rattle.json_text.specs.Chunks.{count_text}
 use Rattle.view_core.specs.Groups.{change_words, headers_text, group_text}
 use Rattle.view_core.specs.Ingresses.{is_untouched, untouched, kind_total}
 use Rattle.view_core.specs.Kinds.{kinds, of_kind, kind_count, in_order}

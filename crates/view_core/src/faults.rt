@@ -2,8 +2,8 @@
 ghost use Rattle.std.specs.Prelude.{◌≤◌, IfOk, length};
 ghost use Rattle.view_core.specs.Names.{text_lines};
 
-use crate::chunks::append_texts;
 use crate::names::names_of;
+use json_text::append_texts;
 use net_types::NoMemory;
 use report_text::{ReportFail, read_report};
 use std::alloc::Global;

@@ -4,7 +4,7 @@ ghost use Rattle.std.specs.List.{flat_map, join_by, list_any};
 ghost use Rattle.ios_words.specs.Names.{row_of};
 ghost use Rattle.view_core.specs.FieldWords.{flag_text, pattern_flags, is_open_pattern, flags_text};
 
-use crate::chunks::append_texts;
+use json_text::append_texts;
 use net_types::NoMemory;
 use report_groups::{Flags, Pattern};
 use report_text::append;

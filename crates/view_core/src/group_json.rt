@@ -5,16 +5,17 @@ ghost use Rattle.std.specs.List.{join_by};
 ghost use Rattle.report_groups.specs.Groups.{field_at};
 ghost use Rattle.view_core.specs.GroupJson.{behind_blanks, or_any_value, value_words, address_values, port_values, values_object, address_pattern, number_pattern, address_member, number_member, address_fields, port_fields, fields_object, group_head, group_values, group_outcomes, group_object};
 ghost use Rattle.view_core.specs.FieldWords.{flags_text, words_text};
-ghost use Rattle.view_core.specs.Json.{string_member};
+ghost use Rattle.json_text.specs.Json.{string_member};
 
-use crate::chunks::append_texts;
-use crate::field_text::{address_field_bytes, number_field_bytes};
 use crate::fields::{
     Kind, append_fields, append_values, is_open, service_of, source_kind, width_of,
 };
 use crate::flags::append_flags;
-use crate::json::{append_member, append_outcomes_array, append_string};
 use crate::summary::change_name;
+use json_text::{
+    address_field_bytes, append_member, append_outcomes_array, append_string, append_texts,
+    number_field_bytes,
+};
 use net_types::{Names, NoMemory};
 use report_groups::{Entry, Flags, Group, Pattern, Shown, Values};
 use report_text::{append, append_number};

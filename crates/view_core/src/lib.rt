@@ -6,17 +6,13 @@
 #![tactic(auto)]
 
 mod addresses;
-mod chunks;
 mod cuts;
 mod differing;
 mod faults;
-mod field_text;
 mod fields;
 mod flags;
 mod group_json;
-mod header_json;
 mod ingresses;
-mod json;
 mod kinds;
 mod labels;
 mod lines;
@@ -34,9 +30,7 @@ pub use cuts::split_word;
 pub use differing::first_difference;
 pub use fields::append_fields;
 pub use group_json::behind_blanks;
-pub use header_json::append_header_members;
 pub use ingresses::Ingress;
-pub use json::{append_member, append_place_members, append_string};
 pub use kinds::in_order;
 pub use lines::lines_of;
 pub use reading::{Reported, read_report_file, report_in};

@@ -2,8 +2,8 @@
 ghost use Rattle.std.specs.Prelude.{◌≡◌, ◌++◌, ◌/◌, ◌%◌, option_map, OnOk};
 ghost use Rattle.view_core.specs.FieldWords.{range_text, name_or, protocol_text, protocol_part, name_behind, ports_text, port_part, one_type, one_message, some_types, some_messages, messages_text, masked_messages, message_part};
 
-use crate::chunks::{Chunk, append_chunks, append_texts};
 use crate::labels::{Service, code_name, port_name, protocol_name, type_name};
+use json_text::{Chunk, append_chunks, append_texts};
 use net_types::NoMemory;
 use report_groups::{Part, Pattern, Span};
 use report_text::{append, append_number, append_ternary};

@@ -5,13 +5,12 @@ ghost use Rattle.std.specs.List.{join_by};
 ghost use Rattle.view_core.specs.Ingresses.{kind_total};
 ghost use Rattle.view_core.specs.ReportJson.{kind_object, kinds_array, tally_version, tally_outcome, tally_names, tally_object, tallies_array, groups_start, untouched_member, sizes_members, summary_object, groups_array, ingress_start, ingress_end, ingress_object, document_start, report_json};
 
-use crate::chunks::append_count;
 use crate::group_json::append_group_object;
 use crate::ingresses::{Ingress, all_rows, group_count, kind_total, untouched};
-use crate::json::{append_member, append_place_members, append_rows};
 use crate::kinds::{KINDS, in_order};
 use crate::summary::change_name;
 use crate::tallies::{Tally, tallies_of, version_name};
+use json_text::{append_count, append_member, append_place_members, append_rows};
 use net_types::{Names, NoMemory, Row};
 use report_groups::{Change, Entry};
 use report_text::append;

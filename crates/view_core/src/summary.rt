@@ -8,10 +8,10 @@ ghost use Rattle.view_core.specs.Kinds.{kind_count};
 ghost use Rattle.view_core.specs.Tallies.{tallies};
 ghost use Rattle.view_core.specs.ViewText.{kind_line, kind_lines, kind_part, kind_parts, rows_end, changed_line, place_line, some_untouched, untouched_line, counts_text, tally_start, tally_line, changes_text, no_change_text, summary_text};
 
-use crate::chunks::{append_count, append_texts};
 use crate::ingresses::{Ingress, is_untouched, kind_total, untouched};
 use crate::kinds::{KINDS, kind_count};
 use crate::tallies::{Count, Tally, tallies_of, version_name};
+use json_text::{append_count, append_texts};
 use net_types::{Names, NoMemory};
 use report_groups::{Change, Entry};
 use report_text::TextPart::{Bytes, Number};

@@ -6,11 +6,11 @@ ghost use Rattle.view_core.specs.Groups.{headers_text, group_words, group_text};
 ghost use Rattle.view_core.specs.Kinds.{of_kind};
 ghost use Rattle.view_core.specs.ViewText.{title_line, summary_head, loop_line, ingress_loops, loops_text, sizes_text, heading_end, heading_text, group_line, ingress_text, view_text};
 
-use crate::chunks::{append_count, append_texts};
 use crate::fields::append_fields;
 use crate::ingresses::{Ingress, is_untouched};
 use crate::kinds::{in_order, is_of_kind};
 use crate::summary::{append_summary, change_name};
+use json_text::{append_count, append_texts};
 use net_types::{List, Names, NoMemory, Outcome};
 use report_groups::{Change, Entry};
 use report_text::{append, append_place, outcome_bytes};

@@ -9,7 +9,7 @@ use Rattle.walk_trace.specs.declared.types.Trace.{Trace}
 use Rattle.walk_trace.specs.TraceText.{trace_text}
 use Rattle.trace_sides.specs.Sides.{first_text, shared}
 use Rattle.view_core.specs.Groups.{group_words}
-use Rattle.view_core.specs.Json.{header_members, key, place_members, string_member, string_text}
+use Rattle.json_text.specs.Json.{header_members, key, place_members, string_member, string_text}
 use Rattle.view_core.specs.Names.{text_lines}
 use Rattle.why_core.specs.Cases.{Case}
 use Rattle.why_core.specs.Words.{Traces}

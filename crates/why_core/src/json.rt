@@ -4,7 +4,7 @@ ghost use Rattle.std.specs.Prelude.{◌≡◌, ◌++◌, codes, filter, IfOk, On
 ghost use Rattle.std.specs.List.{join_by};
 ghost use Rattle.net_text.specs.Lines.{is_line_end};
 ghost use Rattle.trace_sides.specs.Sides.{first_text, shared};
-ghost use Rattle.view_core.specs.Json.{string_text};
+ghost use Rattle.json_text.specs.Json.{string_text};
 ghost use Rattle.why_core.specs.Cases.{case_in};
 ghost use Rattle.why_core.specs.ShownJson.{entry_members, line_count, lines_json, packet_members, sides_members, told_json, told_lines, traces_front, traces_json, traces_schema};
 ghost use Rattle.why_core.specs.Words.{traces_in};
@@ -14,14 +14,13 @@ use crate::cases::CaseRef;
 use crate::explain::Followed;
 use crate::words::TracesWords;
 use hdr_bits::Header;
+use json_text::{append_header_members, append_member, append_place_members, append_string};
 use net_types::{Names, NoMemory};
 use report_text::TextPart::{Bytes, Number};
 use report_text::{append, append_all};
 use std::alloc::Global;
 use trace_sides::{first_bytes, shared};
-use view_core::{
-    append_header_members, append_member, append_place_members, append_string, group_words,
-};
+use view_core::group_words;
 use walk_trace::{Trace, trace_bytes};
 
 // Each function that adds a text adds it at the end. Where memory runs out, a part of the text may stand there.

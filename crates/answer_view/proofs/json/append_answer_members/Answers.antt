@@ -1,6 +1,6 @@
 use Rattle.std.proofs.Common.{ℕ, List, ◌++◌, codes, ap, ◌∙◌}
-use Rattle.view_core.proofs.Joined.{two_more}
-use Rattle.view_core.specs.Json.{string_member}
+use Rattle.json_text.proofs.Joined.{two_more}
+use Rattle.json_text.specs.Json.{string_member}
 use Rattle.answer_view.specs.Answered.{group_of, group_name}
 use Rattle.answer_view.specs.ShownJson.{before_json, answer_json, answer_members}
 use Rattle.answer_view.proofs.json.append_answer_members.Goals as goal

@@ -1,6 +1,6 @@
 use Rattle.std.proofs.Common.{◌++◌, codes, ap, ◌∙◌}
 use Rattle.std.specs.List.{join_by}
-use Rattle.view_core.proofs.Joined.{two_more}
+use Rattle.json_text.proofs.Joined.{two_more}
 use Rattle.answer_view.specs.ShownJson.{count_member, counts_json}
 use Rattle.answer_view.proofs.json.append_counts.Goals as goal
 

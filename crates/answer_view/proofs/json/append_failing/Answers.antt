@@ -1,5 +1,5 @@
 use Rattle.std.proofs.Common.{ℕ, List, ◌++◌, codes}
-use Rattle.view_core.proofs.Joined.{two_more}
+use Rattle.json_text.proofs.Joined.{two_more}
 use Rattle.answer_view.specs.ShownJson.{packet_json, fails_json}
 use Rattle.answer_view.proofs.json.append_failing.Goals as goal
 

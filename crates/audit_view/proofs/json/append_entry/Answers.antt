@@ -1,6 +1,6 @@
 use Rattle.std.proofs.Common.{◌≡◌, ◌++◌, codes}
 use Rattle.std.specs.Prelude.{decimal}
-use Rattle.view_core.proofs.Joined.{two_more, four_more}
+use Rattle.json_text.proofs.Joined.{two_more, four_more}
 use Rattle.audit_view.specs.ShownText.{line_of}
 use Rattle.audit_view.specs.ShownJson.{entry_members}
 use Rattle.audit_view.proofs.json.append_entry.Goals as goal

@@ -1,9 +1,10 @@
 use Rattle.std.proofs.Common.{◌≡◌, ◌++◌, ap, ◌∙◌, codes}
 use Rattle.std.specs.List.{join_by}
-use Rattle.view_core.specs.Json.{string_member}
-use Rattle.view_core.proofs.Joined.{two_more, four_more}
+use Rattle.json_text.specs.Json.{string_member}
+use Rattle.json_text.proofs.Joined.{two_more, four_more}
 use Rattle.audit_view.specs.declared.groups.Group.TheVariants as group
-use Rattle.audit_view.specs.Audited.{kind_name}
+use Rattle.result_text.specs.AuditText.{kind_name}
+use Rattle.audit_view.specs.Audited.{is_dead}
 use Rattle.audit_view.specs.Shown.{is_in}
 use Rattle.audit_view.specs.ShownJson.{entry_members, taken_json, bool_text, finding_json}
 use Rattle.audit_view.proofs.json.append_finding.Goals as goal
@@ -20,7 +21,7 @@ returns c =
     ∙ ap (λ text. c.append-3.new.out.items ++ text) c.bool_text.ensures
     ∙ ap (λ is. c.append-3.new.out.items ++ bool_text is) c.is_in.ensures in
     let taken = c.in_ok-append_all_taken.ensures ∙ ap (λ xs. c.append-5.new.out.items ++ join_by (taken_json c.args.rows l) (codes ", ") xs) c.as_slice.ensures in
-    let four = codes "{" ++ entry_members l f.sequence ++ codes ", " ++ string_member (codes "kind") (kind_name f.kind) in
+    let four = codes "{" ++ entry_members l f.sequence ++ codes ", " ++ string_member (codes "kind") (kind_name (is_dead f)) in
     let six = four ++ codes ", \"closing\": " ++ bool_text (is_in group.Closing l f) in
     let eight = six ++ codes ", \"by\": [" ++ join_by (taken_json c.args.rows l) (codes ", ") f.taken in
     let at_four : c.append_member.new.out.items ≡ o ++ four = four_more o _ _ _ _ _ _ _ _ c.in_ok-append.ensures c.in_ok-append_entry.ensures c.in_ok-append-2.ensures kind in

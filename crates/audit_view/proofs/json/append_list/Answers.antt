@@ -1,7 +1,7 @@
 use Rattle.std.proofs.Common.{◌≡◌, ◌++◌, ap, ◌∙◌, codes}
 use Rattle.std.specs.List.{join_by}
-use Rattle.view_core.specs.Json.{string_member}
-use Rattle.view_core.proofs.Joined.{two_more, four_more}
+use Rattle.json_text.specs.Json.{string_member}
+use Rattle.json_text.proofs.Joined.{two_more, four_more}
 use Rattle.audit_view.specs.declared.groups.Group.TheVariants as group
 use Rattle.audit_view.specs.Shown.{count_in}
 use Rattle.audit_view.specs.ShownJson.{counts_json, finding_json, list_json}

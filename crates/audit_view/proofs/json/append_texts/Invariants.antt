@@ -1,5 +1,5 @@
 use Rattle.std.proofs.Common.{◌≡◌, ◌++◌, codes, take, flat_map}
-use Rattle.view_core.specs.Json.{string_text}
+use Rattle.json_text.specs.Json.{string_text}
 use Rattle.audit_view.proofs.json.append_texts.Given as goal
 
 abbrev pub invariant-loop-text : goal.invariant-loop-text

@@ -1,6 +1,7 @@
 use Rattle.std.proofs.Common.{◌≡◌, ◌++◌, take, flat_map}
-use Rattle.audit_view.specs.Audited.{list_print}
+use Rattle.result_text.specs.AuditText.{list_text}
+use Rattle.audit_view.specs.Audited.{audited_lists}
 use Rattle.audit_view.proofs.printed.append_lists.Given as goal
 
 abbrev pub invariant-loop-one : goal.invariant-loop-one
-invariant-loop-one l = l.out.items ≡ l.fn.out.items ++ flat_map list_print (take l.one-index l.audited)
+invariant-loop-one l = l.out.items ≡ l.fn.out.items ++ flat_map (list_text audited_lists) (take l.one-index l.audited)

@@ -1,6 +1,6 @@
 use Rattle.std.proofs.Common.{ap, ◌∙◌, ◌++◌}
 use Rattle.std.specs.Prelude.{decimal}
-use Rattle.view_core.proofs.Joined.{two_more, four_more}
+use Rattle.json_text.proofs.Joined.{two_more, four_more}
 use Rattle.audit_view.specs.declared.groups.Group.TheVariants as group
 use Rattle.audit_view.specs.Shown.{total}
 use Rattle.audit_view.specs.ShownText.{kinds_text, head_text}

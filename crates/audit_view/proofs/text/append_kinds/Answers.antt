@@ -1,4 +1,4 @@
-use Rattle.view_core.proofs.Joined.{four_more}
+use Rattle.json_text.proofs.Joined.{four_more}
 use Rattle.audit_view.specs.ShownText.{kinds_text}
 use Rattle.audit_view.proofs.text.append_kinds.Goals as goal
 

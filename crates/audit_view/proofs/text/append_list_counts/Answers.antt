@@ -1,6 +1,6 @@
 use Rattle.std.proofs.Common.{ap, ◌∙◌, ◌++◌}
 use Rattle.std.specs.Prelude.{decimal}
-use Rattle.view_core.proofs.Joined.{four_more}
+use Rattle.json_text.proofs.Joined.{four_more}
 use Rattle.audit_view.specs.ShownText.{lists_text}
 use Rattle.audit_view.proofs.text.append_list_counts.Goals as goal
 

@@ -1,6 +1,6 @@
 use Rattle.std.proofs.Common.{◌≡◌, ◌++◌, ap, ◌∙◌, codes, length}
 use Rattle.std.specs.Prelude.{decimal}
-use Rattle.view_core.proofs.Joined.{two_more, four_more}
+use Rattle.json_text.proofs.Joined.{two_more, four_more}
 use Rattle.audit_view.specs.ShownText.{line_of, text_of, row_lines, taken_text}
 use Rattle.audit_view.proofs.text.append_taken.Goals as goal
 

@@ -1,5 +1,5 @@
 use Rattle.view_core.specs.GroupJson.{group_values}
-use Rattle.view_core.proofs.Joined.{four_more}
+use Rattle.json_text.proofs.Joined.{four_more}
 use Rattle.view_core.proofs.group_json.append_group_values.Goals as goal
 
 pub returns : goal.returns

@@ -1,4 +1,4 @@
-use Rattle.view_core.proofs.Joined.{two_more}
+use Rattle.json_text.proofs.Joined.{two_more}
 use Rattle.view_core.proofs.numbers.append_masked.Goals as goal
 
 pub returns : goal.returns

@@ -1,4 +1,4 @@
-use Rattle.view_core.proofs.Joined.{four_more}
+use Rattle.json_text.proofs.Joined.{four_more}
 use Rattle.view_core.proofs.numbers.append_numbers.Goals as goal
 
 pub returns : goal.returns

@@ -1,5 +1,5 @@
 use Rattle.view_core.specs.ReportJson.{ingress_end}
-use Rattle.view_core.proofs.Joined.{three_more}
+use Rattle.json_text.proofs.Joined.{three_more}
 use Rattle.view_core.proofs.report_json.append_ingress_rows.Goals as goal
 
 pub returns : goal.returns

@@ -1,5 +1,5 @@
 use Rattle.view_core.specs.ReportJson.{summary_object}
-use Rattle.view_core.proofs.Joined.{four_more}
+use Rattle.json_text.proofs.Joined.{four_more}
 use Rattle.view_core.proofs.report_json.append_summary_object.Goals as goal
 
 pub returns : goal.returns

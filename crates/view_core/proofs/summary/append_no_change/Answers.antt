@@ -1,4 +1,4 @@
-use Rattle.view_core.proofs.Joined.{two_more}
+use Rattle.json_text.proofs.Joined.{two_more}
 use Rattle.view_core.proofs.summary.append_no_change.Goals as goal
 
 pub returns : goal.returns

@@ -1,4 +1,4 @@
-use Rattle.view_core.proofs.Joined.{three_more}
+use Rattle.json_text.proofs.Joined.{three_more}
 use Rattle.view_core.proofs.summary.append_some_untouched.Goals as goal
 
 pub returns : goal.returns

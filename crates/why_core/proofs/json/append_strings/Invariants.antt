@@ -1,5 +1,5 @@
 use Rattle.std.proofs.Common.{◌≡◌, ◌++◌, codes, flat_map, map, take}
-use Rattle.view_core.specs.Json.{string_text}
+use Rattle.json_text.specs.Json.{string_text}
 use Rattle.why_core.proofs.json.append_strings.Given as goal
 
 abbrev pub invariant-loop-line : goal.invariant-loop-line

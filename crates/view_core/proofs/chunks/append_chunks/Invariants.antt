@@ -1,7 +1,0 @@
-use Rattle.std.proofs.Common.{◌≡◌, ◌++◌, take}
-use Rattle.std.specs.List.{flat_map}
-use Rattle.view_core.specs.Chunks.{chunk_text}
-use Rattle.view_core.proofs.chunks.append_chunks.Given as goal
-
-abbrev pub invariant-loop-chunk : goal.invariant-loop-chunk
-invariant-loop-chunk l = l.out.items ≡ l.fn.out.items ++ flat_map chunk_text (take l.chunk-index l.chunks)

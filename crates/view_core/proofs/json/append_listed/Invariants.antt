@@ -1,6 +1,0 @@
-use Rattle.std.proofs.Common.{◌≡◌, ◌++◌, codes, take, flat_map}
-use Rattle.view_core.specs.Json.{outcome_text}
-use Rattle.view_core.proofs.json.append_listed.Given as goal
-
-abbrev pub invariant-loop-outcome : goal.invariant-loop-outcome
-invariant-loop-outcome l = l.out.items ≡ l.initial.out.items ++ flat_map (λ y. codes ", " ++ outcome_text l.names y) (take l.outcome-index l.rest)
