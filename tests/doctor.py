@@ -4,6 +4,7 @@ DIQENYU_DOCTOR names another program than the one that `./doctor` builds.
 
 The last line is 'N passed, M failed'.
 """
+import json
 import os
 import re
 import subprocess
@@ -11,6 +12,13 @@ import sys
 import tempfile
 
 TOP = os.path.dirname(os.path.dirname(os.path.abspath(__file__)))
+
+try:
+    import jsonschema
+    with open(os.path.join(TOP, "docs", "doctor-schema.json"), encoding="utf-8") as stream:
+        VALIDATOR = jsonschema.Draft7Validator(json.load(stream))
+except ImportError:
+    VALIDATOR = None
 
 R1 = """hostname R1
 interface Ethernet0
@@ -314,6 +322,35 @@ def examine(words, folder):
     return done.returncode, lines[:int(last.group(1))], lines[int(last.group(1)):-1]
 
 
+def document(words, folder):
+    """The status, and the document that the doctor writes of the same; None where it writes none."""
+    done = subprocess.run(program() + ["--json"] + words if words[0] != "--all" else program() + ["--all", "--json"] + words[1:], cwd=folder,
+                          stdin=subprocess.DEVNULL, stdout=subprocess.PIPE, stderr=subprocess.PIPE)
+    return done.returncode, json.loads(done.stdout) if done.stdout else None
+
+
+def place_of(found):
+    """A place of a document as the text has it."""
+    return found["file"] + (":%d" % found["line"] if "line" in found else "")
+
+
+def says_the_same(told, status, warnings, behind, every):
+    """Whether a document says what the text says: the warnings, the limits counted by their words, and the lines where all are asked for."""
+    code, said = told
+    if behind is None or said is None or code != status:
+        return False
+    if VALIDATOR is not None and list(VALIDATOR.iter_errors(said)):
+        return False
+    limits = [limit for limit in said["limits"] if warnings or every or limit["kind"] == "idle"]
+    words = sorted(dict.fromkeys(limit["words"] for limit in limits), key=lambda one: -sum(limit["words"] == one for limit in limits))
+    first = [next(limit for limit in limits if limit["words"] == one) for one in words]
+    lines = ["limit: %s (%d), first %s: %s" % (one["words"], sum(limit["words"] == one["words"] for limit in limits), place_of(one), one["says"])
+             for one in first]
+    listed = ["%s: passed over: %s" % (place_of(line), line["text"]) for line in said["lines"]]
+    counted = [line for line in behind if not line.startswith("passed over: ")]
+    return [place_of(found) + ": " + found["says"] for found in said["warnings"]] == warnings and lines + listed == counted
+
+
 def is_right(wanted, status, warnings, behind):
     """Whether these warnings are among those that are said, or none is where none is wanted. Behind them stand limits alone, where
     there is a warning, and else nothing."""
@@ -333,6 +370,9 @@ def answers(scratch):
         status, warnings, behind = examine(words, folder)
         right = behind == wanted if number >= len(CLEAN) + len(TOLD) else is_right(wanted, status, warnings, behind)
         yield name, wanted, right, [str(status)] + warnings + (behind or [])
+        if behind is not None:
+            same = says_the_same(document(words, folder), status, warnings, behind, words[0] == "--all")
+            yield name + ", as a document", wanted, same, [str(status)] + warnings + behind
     for example, wanted in EXAMPLES:
         here = os.path.join("examples", example)
         status, warnings, behind = examine([os.path.join(here, name) for name in ("old", "new", "links")], TOP)

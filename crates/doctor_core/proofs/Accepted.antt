@@ -135,24 +135,24 @@ texts_stop t folder a s h =
 
 -- ---- the whole
 
-look_stops : (x : Subject) (s : Stop) → IsLook x (Err s) → MayAlwaysStop s
-look_stops x stop.NoMemory h = tt
-look_stops x (stop.CannotRead p) h = tt
-look_stops x (stop.NotFound p) h = h
-look_stops x (stop.TooLong p) h = h
-look_stops x (stop.TooManyFiles p) h = h
-look_stops x (stop.Refused p k w v) h = h
-look_stops x (stop.HostnameTaken p q) h = h
+look_stops : (json : Bool) (x : Subject) (s : Stop) → IsLook json x (Err s) → MayAlwaysStop s
+look_stops json x stop.NoMemory h = tt
+look_stops json x (stop.CannotRead p) h = tt
+look_stops json x (stop.NotFound p) h = h
+look_stops json x (stop.TooLong p) h = h
+look_stops json x (stop.TooManyFiles p) h = h
+look_stops json x (stop.Refused p k w v) h = h
+look_stops json x (stop.HostnameTaken p q) h = h
 
-behind_stops : (t : Told) (o : Option (List ℕ)) (x : Subject) (s : Stop) → IfAsked (AcceptedFile t) o → LooksBehind o t x (Err s) → MayAlwaysStop s
-behind_stops t None x s a h = look_stops x s h
-behind_stops t (Some p) x s a h =
-    then_may_stop (GivesTextAt t p) (λ new_links. IsLook (with_links x new_links)) s (λ r k. file_may_stop t p a r k) (λ new_links g k. look_stops (with_links x new_links) s k) h
+behind_stops : (t : Told) (json : Bool) (o : Option (List ℕ)) (x : Subject) (s : Stop) → IfAsked (AcceptedFile t) o → LooksBehind json o t x (Err s) → MayAlwaysStop s
+behind_stops t json None x s a h = look_stops json x s h
+behind_stops t json (Some p) x s a h =
+    then_may_stop (GivesTextAt t p) (λ new_links. IsLook json (with_links x new_links)) s (λ r k. file_may_stop t p a r k) (λ new_links g k. look_stops json (with_links x new_links) s k) h
 
 with_stops : (t : Told) (p : Paths) (a : AcceptedPaths t p) (old : Texts) (new : Option Texts) (s : Stop) → LooksWith t p old new (Err s) → MayAlwaysStop s
 with_stops t p a old new s h =
-    then_may_stop (GivesTextAt t p.links) (λ links. LooksBehind p.new_links t (subject_of p old new links)) s
-    (λ r k. file_may_stop t p.links a.links r k) (λ links g k. behind_stops t p.new_links (subject_of p old new links) s a.new_links k) h
+    then_may_stop (GivesTextAt t p.links) (λ links. LooksBehind p.json p.new_links t (subject_of p old new links)) s
+    (λ r k. file_may_stop t p.links a.links r k) (λ links g k. behind_stops t p.json p.new_links (subject_of p old new links) s a.new_links k) h
 
 over_stops : (t : Told) (p : Paths) (a : AcceptedPaths t p) (o : Option (List ℕ)) → IfAsked (AcceptedTexts t) o → (old : Texts) (s : Stop) → LooksOver o t p old (Err s) → MayAlwaysStop s
 over_stops t p a None x old s h = with_stops t p a old None s h

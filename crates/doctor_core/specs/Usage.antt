@@ -10,8 +10,8 @@ is_operand (c ∷ word) = not (c == 45)
 abbrev pub usage_text : List ℕ
 usage_text =
     codes "usage:\n"
-    ++ codes "  doctor [--all] NET LINKS\n"
-    ++ codes "  doctor [--all] OLD NEW LINKS [NEWLINKS]\n"
+    ++ codes "  doctor [--all] [--json] NET LINKS\n"
+    ++ codes "  doctor [--all] [--json] OLD NEW LINKS [NEWLINKS]\n"
     ++ codes "  doctor --help\n"
     ++ codes "  doctor --version\n"
 
@@ -27,6 +27,7 @@ help_text =
     ++ codes "  - places that no network has, links, lists, routes and translations that do nothing\n"
     ++ codes "Where there is a warning, lines 'limit: ..' tell the limits of the model that are met.\n"
     ++ codes "  --all  the limits, and every line that is passed over, counted by its first words\n"
+    ++ codes "  --json  the same as one document of JSON\n"
     ++ codes "Statuses: 0 no warning, 1 a warning, 2 usage, 4 cannot read, 5 too long or too many,\n"
     ++ codes "6 cannot write, 7 no memory, 8 not found.\n"
 

@@ -3,13 +3,14 @@
 ghost use Rattle.std.specs.Prelude.{◌≡◌, IfErr, IfOk, IfSome, length, nat_lt, option_map};
 ghost use Rattle.job_core.specs.Causes.{HasCause, NamesLast, WasRead};
 ghost use Rattle.job_core.specs.Steps.{OrNoMemory};
-ghost use Rattle.doctor_warnings.specs.Texts.{IsText};
-ghost use Rattle.doctor_core.specs.Job.{IsLook, IsTold, IsWritten, Looks, LooksBehind, LooksOver, LooksWith, with_links};
+ghost use Rattle.doctor_core.specs.Job.{AreWritten, IsLook, IsTold, IsWritten, Looks, LooksBehind, LooksOver, LooksWith, with_links};
 ghost use Rattle.doctor_core.specs.Words.{paths};
 
 use crate::reading::{read_text, read_texts};
 use crate::words::Asked;
-use doctor_warnings::{Notes, Subject, Tables, TextAt, Texts, notes_bytes, notes_on};
+use doctor_warnings::{
+    Notes, Subject, Tables, TextAt, Texts, notes_bytes, notes_document, notes_on,
+};
 use job_core::{Report, Stop};
 use net_io::Files;
 use net_types::NoMemory;
@@ -85,7 +86,7 @@ fn look_with<F: Files>(
                     new_links: None,
                 },
             };
-            look_by(alloc, files, asked.new_links, subject)
+            look_by(alloc, files, asked.json, asked.new_links, subject)
         }
         Err(stop) => Err(stop),
     }
@@ -95,16 +96,17 @@ fn look_with<F: Files>(
 fn look_by<F: Files>(
     alloc: Global,
     files: &mut F,
+    json: bool,
     new_links: Option<&str>,
     subject: Subject,
 ) -> Result<Report, Stop>
-    ensures job { IfSome (F.told files.old) (λ t. LooksBehind (option_map (λ p. p.now) new_links.entry) t subject result) }
+    ensures job { IfSome (F.told files.old) (λ t. LooksBehind json (option_map (λ p. p.now) new_links.entry) t subject result) }
     ensures cause { HasCause (F.faults files.old) (F.faults files.new) result }
     ensures last { IfErr result (NamesLast (F.last files.new)) }
 {
     match new_links {
-        None => report_of(alloc, subject),
-        Some(path) => look_behind(alloc, files, path, subject),
+        None => report_of(alloc, json, subject),
+        Some(path) => look_behind(alloc, files, json, path, subject),
     }
 }
 
@@ -112,15 +114,16 @@ fn look_by<F: Files>(
 fn look_behind<F: Files>(
     alloc: Global,
     files: &mut F,
+    json: bool,
     path: &str,
     subject: Subject,
 ) -> Result<Report, Stop>
-    ensures job { IfSome (F.told files.old) (λ t. LooksBehind (Some path.now) t subject result) }
+    ensures job { IfSome (F.told files.old) (λ t. LooksBehind json (Some path.now) t subject result) }
     ensures cause { HasCause (F.faults files.old) (F.faults files.new) result }
     ensures last { IfErr result (NamesLast (F.last files.new)) }
 {
     match read_text(alloc, files, path) {
-        Ok(new_links) => report_of(alloc, with_links(subject, new_links)),
+        Ok(new_links) => report_of(alloc, json, with_links(subject, new_links)),
         Err(stop) => Err(stop),
     }
 }
@@ -150,29 +153,39 @@ fn with_links(subject: Subject, new_links: TextAt) -> Subject
 }
 
 // The notes as they are written.
-fn report_of(alloc: Global, subject: Subject) -> Result<Report, Stop>
-    ensures job { IsLook subject result }
+fn report_of(alloc: Global, json: bool, subject: Subject) -> Result<Report, Stop>
+    ensures job { IsLook json subject result }
     ensures read { IfErr result WasRead }
 {
-    Ok(written(alloc, subject)?)
+    Ok(written(alloc, json, subject)?)
 }
 
-fn written(alloc: Global, subject: Subject) -> Result<Report, NoMemory>
-    ensures { IfOk result (IsWritten subject) }
+fn written(alloc: Global, json: bool, subject: Subject) -> Result<Report, NoMemory>
+    ensures { IfOk result (IsWritten json subject) }
 {
     let all = subject.all;
     let notes = notes_on(alloc, subject)?;
-    report_with(alloc, all, &notes)
+    report_with(alloc, json, all, &notes)
 }
 
-fn report_with(alloc: Global, all: bool, notes: &Notes) -> Result<Report, NoMemory>
-    ensures text { IfOk result (λ r. IsText all notes.now r.text.items) }
+fn report_with(alloc: Global, json: bool, all: bool, notes: &Notes) -> Result<Report, NoMemory>
+    ensures text { IfOk result (λ r. AreWritten json all notes.now r.text.items) }
     ensures affected { IfOk result (λ r. r.affected ≡ nat_lt 0 (length notes.now.warnings)) }
 {
     Ok(Report {
-        text: notes_bytes(alloc, all, notes)?,
+        text: bytes_of(alloc, json, all, notes)?,
         affected: notes.warnings.as_slice().len() > 0,
     })
+}
+
+fn bytes_of(alloc: Global, json: bool, all: bool, notes: &Notes) -> Result<Vec<u8>, NoMemory>
+    ensures { IfOk result (λ text. AreWritten json all notes.now text.items) }
+{
+    if json {
+        notes_document(alloc, notes)
+    } else {
+        notes_bytes(alloc, all, notes)
+    }
 }
 
 /// A text that is asked for by itself.

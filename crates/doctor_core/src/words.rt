@@ -2,8 +2,8 @@
 
 ghost use Rattle.std.specs.Prelude.{◌≡◌, map, option_map, string_bytes};
 ghost use Rattle.std.specs.Str.{bytes_eq};
-ghost use Rattle.doctor_core.specs.Usage.{is_operand};
-ghost use Rattle.doctor_core.specs.Words.{if_named, is_only, paths, paths_by, paths_of, text_of};
+ghost use Rattle.doctor_core.specs.Usage.{help_text, is_operand};
+ghost use Rattle.doctor_core.specs.Words.{if_named, is_only, paths, paths_behind, paths_by, paths_of, text_of};
 
 use crate::usage::{HELP, VERSION, is_operand};
 
@@ -12,6 +12,8 @@ use crate::usage::{HELP, VERSION, is_operand};
 pub struct Asked<'a> {
     /// Whether all lines that are passed over are told.
     pub all: bool,
+    /// Whether the notes are asked for as a document.
+    pub json: bool,
     pub old: &'a str,
     pub new: Option<&'a str>,
     pub links: &'a str,
@@ -23,12 +25,18 @@ pub(crate) fn text_of(words: &[String]) -> Option<&'static [u8]>
     ensures { option_map (λ text. text.now) result ≡ text_of (map string_bytes words.now) }
 {
     if is_only(words, b"--help") {
-        return Some(HELP);
+        return Some(help());
     }
     if is_only(words, b"--version") {
         return Some(VERSION);
     }
     None
+}
+
+fn help() -> &'static [u8]
+    ensures { result.now ≡ help_text }
+{
+    HELP
 }
 
 // Whether there is one word, and this is it.
@@ -49,22 +57,39 @@ pub(crate) fn asked_in(words: &[String]) -> Option<Asked<'_>>
         [] => None,
         [word, rest @ ..] => {
             if word.as_bytes() == b"--all".as_slice() {
-                asked_by(true, rest)
+                asked_behind(true, rest)
             } else {
-                asked_by(false, words)
+                asked_behind(false, words)
             }
         }
     }
 }
 
-fn asked_by(all: bool, words: &[String]) -> Option<Asked<'_>>
-    ensures { option_map paths result ≡ paths_by all (map string_bytes words.now) }
+// The same behind `--all`, or where it isn't there.
+fn asked_behind(all: bool, words: &[String]) -> Option<Asked<'_>>
+    ensures { option_map paths result ≡ paths_behind all (map string_bytes words.now) }
+{
+    match words {
+        [] => None,
+        [word, rest @ ..] => {
+            if word.as_bytes() == b"--json".as_slice() {
+                asked_by(all, true, rest)
+            } else {
+                asked_by(all, false, words)
+            }
+        }
+    }
+}
+
+fn asked_by(all: bool, json: bool, words: &[String]) -> Option<Asked<'_>>
+    ensures { option_map paths result ≡ paths_by all json (map string_bytes words.now) }
 {
     match words {
         [net, links] => if_named(
             is_path(net) && is_path(links),
             Asked {
                 all,
+                json,
                 old: net.as_str(),
                 new: None,
                 links: links.as_str(),
@@ -75,6 +100,7 @@ fn asked_by(all: bool, words: &[String]) -> Option<Asked<'_>>
             is_path(old) && is_path(new) && is_path(links),
             Asked {
                 all,
+                json,
                 old: old.as_str(),
                 new: Some(new.as_str()),
                 links: links.as_str(),
@@ -85,6 +111,7 @@ fn asked_by(all: bool, words: &[String]) -> Option<Asked<'_>>
             is_path(old) && is_path(new) && is_path(links) && is_path(new_links),
             Asked {
                 all,
+                json,
                 old: old.as_str(),
                 new: Some(new.as_str()),
                 links: links.as_str(),

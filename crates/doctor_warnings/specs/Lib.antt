@@ -9,3 +9,4 @@ pub mod Doctor
 pub mod Texts
 pub mod Sides
 pub mod Beside
+pub mod NotesJson

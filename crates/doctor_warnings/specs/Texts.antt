@@ -50,17 +50,39 @@ reason_text reason.Idle = codes "passed over, and no packet depends on it"
 abbrev pub refused_text : List ℕ → List ℕ → List ℕ → List ℕ
 refused_text kind word text = codes "refused " ++ kind ++ shown_word word ++ shown_behind text
 
+-- the file that a warning is about, and its line, from 1; 0 where the whole file is meant
+abbrev pub warned_path : Warning → List ℕ
+warned_path (warning.NoConfigs folder) = folder
+warned_path (warning.Unread path) = path
+warned_path (warning.OneFolder path) = path
+warned_path (warning.HostTaken path first) = path
+warned_path (warning.Refused path line kind word text) = path
+warned_path (warning.Passed path line r text) = path
+warned_path (warning.Config path f) = path
+warned_path (warning.Place path two f) = path
+warned_path (warning.Stray path two s) = path
+
+abbrev pub warned_line : Warning → ℕ
+warned_line (warning.Refused path line kind word text) = line
+warned_line (warning.Passed path line r text) = line
+warned_line (warning.Place path two f) = line_of f
+warned_line (warning.Stray path two s) = s.line
+warned_line _ = 0
+
+-- what it says of it
+abbrev pub says_text : Warning → List ℕ
+says_text (warning.NoConfigs folder) = codes "no file whose name ends in .cfg"
+says_text (warning.Unread path) = codes "not read, since its name doesn't end in .cfg"
+says_text (warning.OneFolder path) = codes "the other folder has no file of this name"
+says_text (warning.HostTaken path first) = codes "refused hostname taken by " ++ shown first
+says_text (warning.Refused path line kind word text) = refused_text kind word text
+says_text (warning.Passed path line r text) = reason_text r ++ shown_behind text
+says_text (warning.Config path f) = config_text f
+says_text (warning.Place path two f) = finding_text two f
+says_text (warning.Stray path two s) = stray_text two s
+
 abbrev pub warning_text : Warning → List ℕ
-warning_text (warning.NoConfigs folder) = head_text folder 0 ++ codes "no file whose name ends in .cfg"
-warning_text (warning.Unread path) = head_text path 0 ++ codes "not read, since its name doesn't end in .cfg"
-warning_text (warning.OneFolder path) = head_text path 0 ++ codes "the other folder has no file of this name"
-warning_text (warning.HostTaken path first) = head_text path 0 ++ codes "refused hostname taken by " ++ shown first
-warning_text (warning.Refused path line kind word text) =
-    head_text path line ++ refused_text kind word text
-warning_text (warning.Passed path line r text) = head_text path line ++ reason_text r ++ shown_behind text
-warning_text (warning.Config path f) = head_text path 0 ++ config_text f
-warning_text (warning.Place path two f) = head_text path (line_of f) ++ finding_text two f
-warning_text (warning.Stray path two s) = head_text path s.line ++ stray_text two s
+warning_text w = head_text (warned_path w) (warned_line w) ++ says_text w
 
 abbrev pub warning_line : Warning → List ℕ
 warning_line w = warning_text w ++ 10 ∷ []
@@ -75,17 +97,17 @@ count_text n path line = codes " (" ++ decimal n ++ codes "), first " ++ place_t
 
 -- what becomes of such a network, and the chapter of the guide
 abbrev pub kind_text : LimitKind → List ℕ
-kind_text limit.Ethernet = codes ": a packet to an unused address of the subnet, as its first one, goes to and fro until it expires; GUIDE.md, section 7"
-kind_text limit.Prepared = codes ": refused; prepare brings it into what is read; GUIDE.md, section 15"
-kind_text limit.Idle = codes ": passed over, and not compared"
-kind_text limit.Refused = codes ": refused, since it isn't in the model; GUIDE.md, section 14"
+kind_text limit.Ethernet = codes "a packet to an unused address of the subnet, as its first one, goes to and fro until it expires; GUIDE.md, section 7"
+kind_text limit.Prepared = codes "refused; prepare brings it into what is read; GUIDE.md, section 15"
+kind_text limit.Idle = codes "passed over, and not compared"
+kind_text limit.Refused = codes "refused, since it isn't in the model; GUIDE.md, section 14"
 
 abbrev pub is_idle : LimitKind → Bool
 is_idle limit.Idle = true
 is_idle _ = false
 
 abbrev pub limit_text : Tally → Limit → List ℕ
-limit_text r l = codes "limit: " ++ shown r.text ++ count_text r.count l.path l.line ++ kind_text l.kind ++ 10 ∷ []
+limit_text r l = codes "limit: " ++ shown r.text ++ count_text r.count l.path l.line ++ codes ": " ++ kind_text l.kind ++ 10 ∷ []
 
 -- limits of the model are told where they are asked for; how many lines no packet depends on is told always
 abbrev pub limit_by : Bool → Tally → Option Limit → List ℕ

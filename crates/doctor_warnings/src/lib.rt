@@ -10,6 +10,7 @@ mod files;
 mod folder;
 mod heads;
 mod hosts;
+mod json;
 mod limit;
 mod lines;
 mod listing;
@@ -24,6 +25,7 @@ mod warning_text;
 mod wiring;
 
 pub use files::{TextAt, TextFile};
+pub use json::notes_document;
 pub use limit::{Limit, LimitKind};
 pub use listing::ListedLine;
 pub use network::{Notes, Subject, Tables, Texts, notes_on};

@@ -82,7 +82,8 @@ fn append_limit(out: &mut Vec<u8>, row: &Tally, limit: &Limit) -> Result<(), NoM
     append(out, b"limit: ")?;
     append_shown(out, row.text.as_bytes())?;
     append_count(out, row.count, &limit.path, limit.line)?;
-    append_kind(out, limit.kind)?;
+    append(out, b": ")?;
+    append(out, kind_text(limit.kind))?;
     append(out, b"\n")
 }
 
@@ -96,23 +97,17 @@ fn append_count(out: &mut Vec<u8>, count: u64, path: &Text, line: u64) -> Result
     append_place(out, path, line)
 }
 
-fn append_kind(out: &mut Vec<u8>, kind: LimitKind) -> Result<(), NoMemory>
-    ensures { OnOk result (out.new.items ≡ out.old.items ++ kind_text kind) }
+/// What becomes of a network that meets such a limit.
+pub(crate) fn kind_text(kind: LimitKind) -> &'static [u8]
+    ensures { result.now ≡ kind_text kind }
 {
     match kind {
-        LimitKind::Ethernet => append(
-            out,
-            b": a packet to an unused address of the subnet, as its first one, goes to and fro until it expires; GUIDE.md, section 7",
-        ),
-        LimitKind::Prepared => append(
-            out,
-            b": refused; prepare brings it into what is read; GUIDE.md, section 15",
-        ),
-        LimitKind::Idle => append(out, b": passed over, and not compared"),
-        LimitKind::Refused => append(
-            out,
-            b": refused, since it isn't in the model; GUIDE.md, section 14",
-        ),
+        LimitKind::Ethernet =>
+            b"a packet to an unused address of the subnet, as its first one, goes to and fro until it expires; GUIDE.md, section 7",
+        LimitKind::Prepared =>
+            b"refused; prepare brings it into what is read; GUIDE.md, section 15",
+        LimitKind::Idle => b"passed over, and not compared",
+        LimitKind::Refused => b"refused, since it isn't in the model; GUIDE.md, section 14",
     }
 }
 

@@ -9,5 +9,5 @@ pub returns-in-Ok-clause-job : goal.returns-in-Ok-clause-job
 returns-in-Ok-clause-job g c =
     let told : Option Told = g.F.Files.told c.args.files.now in
     let r = c.report_of.result in
-    let look = subst (λ s. IsLook s r) c.with_links.ensures c.report_of.ensures.job in
-    then_go (λ t r. GivesTextAt t c.args.path.now r) (λ t new_links r. IsLook (with_links c.args.subject new_links) r) told c.in-Ok.new_links r c.in-Ok.ensures.text (however_told told look)
+    let look = subst (λ s. IsLook c.args.json s r) c.with_links.ensures c.report_of.ensures.job in
+    then_go (λ t r. GivesTextAt t c.args.path.now r) (λ t new_links r. IsLook c.args.json (with_links c.args.subject new_links) r) told c.in-Ok.new_links r c.in-Ok.ensures.text (however_told told look)

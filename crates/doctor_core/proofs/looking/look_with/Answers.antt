@@ -11,5 +11,5 @@ returns-in-Ok-clause-job g c =
     let told : Option Told = g.F.Files.told c.args.files.now in
     let p = paths c.args.asked.now in
     let r = c.look_by.result in
-    let rest = subst (λ (o : Option Told). IfSome o (λ t. LooksBehind p.new_links t (subject_of p c.args.old c.args.new c.in-Ok.links) r)) c.in-Ok.ensures.same c.look_by.ensures.job in
-    then_go (λ t r. GivesTextAt t p.links r) (λ t links r. LooksBehind p.new_links t (subject_of p c.args.old c.args.new links) r) told c.in-Ok.links r c.in-Ok.ensures.text rest
+    let rest = subst (λ (o : Option Told). IfSome o (λ t. LooksBehind p.json p.new_links t (subject_of p c.args.old c.args.new c.in-Ok.links) r)) c.in-Ok.ensures.same c.look_by.ensures.job in
+    then_go (λ t r. GivesTextAt t p.links r) (λ t links r. LooksBehind p.json p.new_links t (subject_of p c.args.old c.args.new links) r) told c.in-Ok.links r c.in-Ok.ensures.text rest
