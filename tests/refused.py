@@ -68,6 +68,7 @@ def rollout_rows():
     }
     found["edits"] = ["edits", f"{EXAMPLES}/list-entry/old", f"{EXAMPLES}/list-entry/links", f"{EXAMPLES}/edits/edits"]
     found["audit"] = ["audit", f"{EXAMPLES}/audit/net"]
+    found["variants"] = ["variants", f"{window}/net", f"{window}/links", f"{window}/variants"]
     return found
 
 

@@ -3,36 +3,26 @@
 ghost use Rattle.std.specs.Prelude.{◌≡◌, ◌<◌, ◌≤◌, ◌^◌, ℕ, IfOk, IfSome, length};
 ghost use Rattle.net_forms.specs.Pairs.{AreBothForms, ArePreparedParts};
 ghost use Rattle.net_types.specs.Report.{IsReport};
-ghost use Rattle.net_types.specs.World.{World};
-ghost use Rattle.net_compare.specs.Slots.{AreRowsOfSlots, affected_in};
 ghost use Rattle.net_view.specs.Borrowed.{world_of};
 ghost use Rattle.set_walk.specs.Scopes.{AreAlikeBeyond};
 ghost use Rattle.place_ways.specs.Places.{ArePlaceWays};
 ghost use Rattle.indexmap.specs.IndexMap.{get};
 ghost use Rattle.net_types.specs.World.{same_place};
 ghost use Rattle.net_compare.specs.Networks.{world};
-ghost use Rattle.net_compare.specs.Walkable.{AreWalkable, gives_of};
 
-use crate::classes::Classes;
-use crate::compared::Compared;
-use crate::slots::Slots;
-use crate::source::Ingresses;
+use crate::known::{NetPair, compare_in};
 use change_scope::scope_of;
 use cube_diagram::Diagrams;
-use difference_reach::Reach;
 use list_tables::prepared_by_workers;
 use net_forms::{BothForms, Networks, PreparedParts, Tables};
-use net_types::{Links, List, Network, NoMemory, Place, Section};
+use net_types::{Links, Network, NoMemory, Place, Section};
 use net_view::WorldRef;
-use pair_rows::{Pairing, SlotRows, rows_by_workers};
 use place_ways::{BothWays, ways_of_both};
 use set_walk::Net;
 use std::alloc::Global;
-use std::marker::Brand;
 use std::sync::Wait;
 use std::thread::Threads;
 use steal_pool::{Gate, Workers};
-use table_twins::{Base, Twins};
 
 /// The scope of a change, with the ways of all places of both networks for its headers.
 pub struct ScopedWays {
@@ -178,7 +168,7 @@ struct Walked<'a> {
 fn sections_by<G: Gate + Sync, R: Threads + Wait + Sync>(
     by: &Workers<R, G>,
     alloc: Global,
-    mut table: Diagrams,
+    table: Diagrams,
     walked: Walked,
     ingress: &[Place],
     ttl: u8,
@@ -204,127 +194,9 @@ fn sections_by<G: Gate + Sync, R: Threads + Wait + Sync>(
         lists: &ways.lists,
         scope,
     };
-    let reach = Reach::of(alloc, &mut table, &old, &new)?;
-    let classes = Classes::new(alloc);
-    let compared = Compared {
+    let nets = NetPair {
         old: &old,
         new: &new,
-        reach: &reach,
-        classes: &classes,
-        ingress,
-        ttl,
     };
-    sections_at(by, alloc, table, &compared)
-}
-
-// The sections of the ingresses, in their order. What each header is given in each slot is named for it by a type.
-fn sections_at<G: Gate + Sync, R: Threads + Wait + Sync>(
-    by: &Workers<R, G>,
-    alloc: Global,
-    table: Diagrams,
-    compared: &Compared,
-) -> Result<Vec<Section>, NoMemory>
-    requires { AreWalkable table compared.now }
-    ensures { IfOk result (λ sections. IsReport compared.now.ingress.now (world_of compared.now.old.now.world) (world_of compared.now.new.now.world) compared.now.ttl sections.items) }
-{
-    sections_named::<Brand, G, R>(by, alloc, table, compared)
-}
-
-fn sections_named<K: Pairing + Base + Send + Sync, G: Gate + Sync, R: Threads + Wait + Sync>(
-    by: &Workers<R, G>,
-    alloc: Global,
-    table: Diagrams,
-    compared: &Compared,
-) -> Result<Vec<Section>, NoMemory>
-    requires nets { AreWalkable table compared.now }
-    requires base { K.base ≡ table }
-    requires gives { K.gives ≡ gives_of compared.now }
-    ensures { IfOk result (λ sections. IsReport compared.now.ingress.now (world_of compared.now.old.now.world) (world_of compared.now.new.now.world) compared.now.ttl sections.items) }
-{
-    let slots: Slots<K> = Slots::of(compared);
-    let all = rows_of(by, alloc, table, &slots)?;
-    let sections = sections_of(alloc, compared.ingress, all)?;
-    Ok(sections)
-}
-
-// The rows of each ingress. One who walks alone walks in the table itself, several in copies.
-fn rows_of<K: Pairing + Base + Send + Sync, G: Gate + Sync, R: Threads + Wait + Sync>(
-    by: &Workers<R, G>,
-    alloc: Global,
-    table: Diagrams,
-    slots: &Slots<K>,
-) -> Result<Vec<SlotRows>, NoMemory>
-    requires { K.base ≡ table }
-    ensures { IfOk result (λ all. AreRowsOfSlots K.gives (length slots.now) all.items) }
-{
-    if by.count == 1 || slots.count() < 2 {
-        return rows_alone(by, alloc, table, slots);
-    }
-    rows_shared(by, alloc, &table, slots)
-}
-
-fn rows_alone<K: Pairing + Base + Send + Sync, G: Gate + Sync, R: Threads + Wait + Sync>(
-    by: &Workers<R, G>,
-    alloc: Global,
-    table: Diagrams,
-    slots: &Slots<K>,
-) -> Result<Vec<SlotRows>, NoMemory>
-    requires { K.base ≡ table }
-    ensures { IfOk result (λ all. AreRowsOfSlots K.gives (length slots.now) all.items) }
-{
-    let twins: Twins<K> = Twins::of(alloc, table)?;
-    rows_in(by, alloc, None, &twins, slots)
-}
-
-fn rows_shared<K: Pairing + Base + Send + Sync, G: Gate + Sync, R: Threads + Wait + Sync>(
-    by: &Workers<R, G>,
-    alloc: Global,
-    table: &Diagrams,
-    slots: &Slots<K>,
-) -> Result<Vec<SlotRows>, NoMemory>
-    requires { K.base ≡ table.now }
-    ensures { IfOk result (λ all. AreRowsOfSlots K.gives (length slots.now) all.items) }
-{
-    let twins: Twins<K> = Twins::new(alloc);
-    rows_in(by, alloc, Some(table), &twins, slots)
-}
-
-// By workers who walk in these twins of the base.
-fn rows_in<K: Pairing + Base + Send + Sync, G: Gate + Sync, R: Threads + Wait + Sync>(
-    by: &Workers<R, G>,
-    alloc: Global,
-    base: Option<&Diagrams>,
-    twins: &Twins<K>,
-    slots: &Slots<K>,
-) -> Result<Vec<SlotRows>, NoMemory>
-    requires { IfSome base (λ b. K.base ≡ b.now) }
-    ensures { IfOk result (λ all. AreRowsOfSlots K.gives (length slots.now) all.items) }
-{
-    let source: Ingresses<R, K> = Ingresses::of(by.rt, base, twins, slots);
-    let count = slots.count();
-    let all = rows_by_workers::<Ingresses<R, K>, K, G, R>(by, alloc, &source, count)?;
-    Ok(all)
-}
-
-// The rows of each slot as the section of its ingress.
-fn sections_of(
-    alloc: Global,
-    ingress: &[Place],
-    all: Vec<SlotRows>,
-) -> Result<Vec<Section>, NoMemory>
-    requires { length all.items ≡ length ingress.now }
-    ensures { IfOk result (λ sections. (old new : World) (t : ℕ) → AreRowsOfSlots (affected_in old new t ingress.now) (length ingress.now) all.items → IsReport ingress.now old new t sections.items) }
-{
-    let mut sections = Vec::new(alloc);
-    let mut rest = all.into_iter();
-    for place in ingress {
-        let Some(slot) = rest.next() else {
-            unreachable!();
-        };
-        sections.push(Section {
-            place: *place,
-            rows: List::new(slot.rows),
-        })?;
-    }
-    Ok(sections)
+    compare_in(by, alloc, table, nets, ingress, ttl)
 }

@@ -6,14 +6,17 @@
 //! header its two labels where they differ.
 #![tactic(auto)]
 
+mod alone;
 mod classes;
 mod compared;
 mod comparison;
 mod ingress;
+mod known;
 pub mod laws;
 mod pairs;
 mod slots;
 mod source;
 
 pub use comparison::{ScopedWays, compare, compare_worlds, scoped_ways};
+pub use known::{NetPair, compare_known};
 pub use laws::Affected;

@@ -1,1 +1,2 @@
 pub mod Variants
+pub mod Kept

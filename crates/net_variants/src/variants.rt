@@ -1,52 +1,81 @@
 //! Each variant compared with the network.
 
-ghost use Rattle.std.specs.Prelude.{◌≡◌, ◌==◌, ◌<◌, IfOk, OnOk, Some, length, position, slice_set};
-ghost use Rattle.live_network.specs.Replaced.{with_device};
-ghost use Rattle.net_variants.specs.Variants.{variant};
+ghost use Rattle.net_view.specs.Borrowed.{world_of};
+ghost use Rattle.live_network.specs.Live.{IsLive};
+ghost use Rattle.net_variants.specs.Kept.{IsKept};
 
-use net_compare::compare;
-use net_types::{Duplicate, Links, List, NetDevice, Network, NoMemory, Section};
+use crate::comparing::{Asked, compare_kept};
+use crate::kept::Kept;
+use list_tables::formed_by_workers;
+use live_network::{settle, ways_of_formed};
+use net_types::{Duplicate, Links, NetDevice, Network, NoMemory, Section};
+use net_view::WorldRef;
 use std::alloc::Global;
 use std::marker::Model;
-use std::mem;
 use std::sync::Wait;
 use std::thread::Threads;
 use steal_pool::{Gate, Workers};
 
-/// A network with its links, with which variants of it are compared.
-#[derive(Drop)]
+/// A network with its links, with which variants of it are compared. It is compiled once, and of each variant the changed devices
+/// alone.
 pub struct Variants<'a> {
     network: &'a Network,
     links: &'a Links,
+    kept: Kept,
+}
+
+impl<'a> Drop for Variants<'a> {
+    fn drop(self) {
+        let Variants {
+            network: _,
+            links: _,
+            kept: _,
+        } = self;
+    }
 }
 
 impl<'a> Model for Variants<'a> {
     ghost use Rattle.net_types.specs.World.{World};
+    ghost use Rattle.net_variants.specs.Kept.{IsKept};
 
     // Contracts see the network with its links.
     ghost Value = { World };
 
     ghost view = { λ v. record { network = v.network.now; links = v.links.now } };
+
+    ghost invariant = { λ v. IsKept (record { network = v.network.now; links = v.links.now }) v.kept };
 }
 
 impl<'a> Variants<'a> {
     ghost use Rattle.std.specs.Prelude.{◌≡◌, ◌≤◌, IfOk};
     ghost use Rattle.net_variants.specs.Variants.{IsVariantReport};
 
-    /// The network, of which nothing is compared yet.
+    /// Compiles the network. Its long lists are made functions by the workers.
     pub fn open<G, R: Threads + Sync>(
-        _by: &Workers<R, G>,
-        _alloc: Global,
+        by: &Workers<R, G>,
+        alloc: Global,
         network: &'a Network,
         links: &'a Links,
     ) -> Result<Variants<'a>, NoMemory>
         ensures { IfOk result (λ v. v ≡ record { network = network.now; links = links.now }) }
     {
-        Ok(Variants { network, links })
+        let world = WorldRef { network, links };
+        let formed = formed_by_workers(by, alloc, world)?;
+        let live = ways_of_formed(alloc, formed)?;
+        let kept = Kept {
+            network: network.copy(alloc)?,
+            replaced: Vec::new(alloc),
+            live,
+        };
+        Ok(Variants {
+            network,
+            links,
+            kept,
+        })
     }
 
-    /// The report on the network and the variant in which each of these devices stands in the place of the one of its name, one after
-    /// the other. The variants before it don't matter.
+    /// The report on the network and the variant in which these devices stand in the places of those of their names, one after the
+    /// other. The variants before it don't matter.
     ///
     /// The report is the same for each number of workers. The TTL is at least 1. It answers `NoMemory` only where there was none.
     pub fn compare<G: Gate + Sync, R: Threads + Wait + Sync>(
@@ -60,47 +89,13 @@ impl<'a> Variants<'a> {
         ensures report { IfOk result (λ sections. IsVariantReport self.old changes.now ttl sections.items) }
         ensures same { self.new ≡ self.old }
     {
-        let network = variant(alloc, self.network, changes)?;
-        compare(by, alloc, self.network, &network, self.links, ttl)
+        let world = WorldRef {
+            network: self.network,
+            links: self.links,
+        };
+        let asked = Asked { changes, ttl };
+        let sections = compare_kept(by, alloc, world, &mut self.kept, asked);
+        settle(alloc, world, &mut self.kept.live);
+        sections
     }
-}
-
-// The network with these devices.
-fn variant(alloc: Global, network: &Network, changes: &[NetDevice]) -> Result<Network, NoMemory>
-    ensures { IfOk result (λ r. r ≡ variant network.now changes.now) }
-{
-    let mut now = network.copy(alloc)?;
-    for change in changes {
-        put(alloc, &mut now, change)?;
-    }
-    Ok(now)
-}
-
-// Puts the device in the place of the first one of its name, if there is one.
-fn put(alloc: Global, network: &mut Network, change: &NetDevice) -> Result<(), NoMemory>
-    ensures { OnOk result (network.new ≡ with_device change.now network.old) }
-{
-    let devices = network.devices.as_slice();
-    let Some(position) = first_named(devices, change.name) else {
-        return Ok(());
-    };
-    let device = change.copy(alloc)?;
-    put_at(alloc, network, position, device);
-    Ok(())
-}
-
-fn first_named(devices: &[NetDevice], name: u32) -> Option<usize>
-    ensures { result ≡ position (λ d. d.name == name) devices.now }
-{
-    devices.iter().position(|d| d.name == name)
-}
-
-// The same where the first device of its name is at the position.
-fn put_at(alloc: Global, network: &mut Network, position: usize, device: NetDevice)
-    requires { position < length network.old.devices }
-    ensures { network.new ≡ record { devices = slice_set network.old.devices position device } }
-{
-    let mut devices = mem::replace(&mut network.devices, List::empty(alloc)).into_vec();
-    devices[position] = device;
-    network.devices = List::new(devices);
 }

@@ -4,7 +4,7 @@ use Rattle.std.specs.Vec.Iter.{into_iter_items}
 use Rattle.net_types.specs.World.{World}
 use Rattle.net_types.specs.Report.{IsSection}
 use Rattle.net_compare.specs.Slots.{AreRowsOfSlots, affected_in}
-use Rattle.net_compare.proofs.comparison.sections_of.Given as goal
+use Rattle.net_compare.proofs.known.sections_of.Given as goal
 
 abbrev pub invariant-loop-place : goal.invariant-loop-place
 invariant-loop-place l = record {

@@ -1,5 +1,5 @@
 use Rattle.net_compare.specs.Walkable.{gives_of}
-use Rattle.net_compare.proofs.comparison.sections_at.Given as goal
+use Rattle.net_compare.proofs.known.sections_at.Given as goal
 
 abbrev pub ghosts-sections_named-K-Pairing : goal.ghosts-sections_named-K-Pairing
 ghosts-sections_named-K-Pairing g a = record { gives = gives_of a.compared.now }

@@ -6,7 +6,7 @@ use Rattle.net_types.specs.Report.{IsSection, affected}
 use Rattle.pair_rows.specs.Pairs.{AreRowsWithPairs}
 use Rattle.net_compare.specs.Slots.{affected_at}
 use Rattle.net_compare.proofs.SectionLemmas.{zip_more, next_there, next_rest, is_section}
-use Rattle.net_compare.proofs.comparison.sections_of.Goals as goal
+use Rattle.net_compare.proofs.known.sections_of.Goals as goal
 
 pub loop-place-preserved : goal.loop-place-preserved
 loop-place-preserved c =
