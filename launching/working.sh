@@ -11,15 +11,31 @@ when_interrupted='interrupted'
 told=0
 patience=20
 
-# Ends what works for this script, and removes what it made. What these processes started ends with them.
+# Ends what works for this script, and removes what it made. What these processes started ends with them, but may write for a moment longer.
 clean() {
+    local again=1
     if [ "${#running[@]}" != 0 ]; then
         kill "${running[@]}" 2>/dev/null
         wait "${running[@]}" 2>/dev/null
+        again=50
     fi
     running=()
-    [ "${#rooms[@]}" = 0 ] || rm -rf "${rooms[@]}"
+    [ "${#rooms[@]}" = 0 ] || remove "$again"
     rooms=()
+}
+
+# remove TRIES: removes the rooms, and looks so often whether one is there again, until none is for three looks.
+remove() {
+    local tries=$1 gone=0 it
+    rm -rf "${rooms[@]}" 2>/dev/null
+    while [ "$((tries -= 1))" -gt 0 ] && [ "$gone" -lt 3 ]; do
+        sleep 0.1
+        gone=$((gone + 1))
+        for it in "${rooms[@]}"; do
+            [ -e "$it" ] && gone=0
+        done
+        [ "$gone" != 0 ] || rm -rf "${rooms[@]}" 2>/dev/null
+    done
 }
 
 end_line() {

@@ -19,20 +19,28 @@ echo "Handles allowed: none." >"$top/HANDLES"
 printf '# comment\nlow:\nleft: low kit_library\nright: low\nreview_cli: left right # the program\nrollout_cli: left\nview_cli: low\nother: low\ndoctor_cli: other\n' >"$top/crates.txt"
 echo "stand-in-kit 1" >"$kit/KIT-ID"
 # (weights of a machine that is much slower than the stand-in)
-printf 'build review 90\nproof left 120\nproof review_cli 60\n' >"$top/launching/weights"
+table() { printf 'build review 90\nproof left 120\nproof review_cli 60\n'; }
+table >"$top/launching/weights"
 
 cat >"$kit/bin/rt" <<'RT'
 #!/usr/bin/env bash
 # rt ci at the top of a repository, rt all check, rt run and rt try in the folder of a program. RT_DIARY gets a line for each crate that
 # is begun and for each that passes, and for each build; RT_OLD keeps nothing between runs of rt ci; RT_CI fails rt ci, and RT_ALL fails
-# rt all; RT_SLOW are the seconds of a build.
+# rt all. A crate whose name is of the pattern RT_LAST doesn't end before the command RT_WAITS succeeds.
 here=$(dirname "$(readlink -f "$0")")
 kept=$(dirname "$(dirname "$here")")/rattle-kept
 [ -n "${RT_OLD:-}" ] && kept=
 trap 'rm -rf "${room:-}"' EXIT
-trap 'kill $(jobs -p) 2>/dev/null; exit 143' TERM
+trap 'kill $(jobs -p) 2>/dev/null; wait; exit 143' TERM
 room=$(mktemp -d)
 libraries() { sed -n "s/^$1:\([^#]*\).*/\1/p" "$top/crates.txt"; }
+waits() {
+    [[ $1 =~ ^(${RT_LAST:-})$ ]] || return 0
+    for _ in $(seq 600); do
+        eval "$RT_WAITS" && return
+        sleep 0.1
+    done
+}
 # The crates that this one is made of, and a sum of their sources.
 below() { for it in $(libraries "$1"); do [ -d "$top/crates/$it" ] && below "$it"; done; echo "$1"; }
 sum() { for it in $(below "$1" | sort -u); do cat "$top/crates/$it/src/"*; done | cksum | tr ' ' -; }
@@ -55,8 +63,7 @@ prove() {
         return
     fi
     echo "begin $1" >>"$RT_DIARY"
-    sleep "$(cat "$top/crates/$1/src/seconds" 2>/dev/null || echo 0)" &
-    wait $!
+    waits "$1"
     word=$(cat "$top/crates/$1/src/"*.rt)
     if [ "$word" = wrong ]; then
         printf '== %s\n%s: error: it is wrong\nlogic=not-proved\n' "$1" "$1"
@@ -105,8 +112,7 @@ case $verb in
         top=$(cd ../.. && pwd)
         crate=$(basename "$PWD")
         echo "try $crate" >>"$RT_DIARY"
-        sleep "${RT_SLOW:-0}" &
-        wait $!
+        waits "$crate"
         word=$(cat src/main.rt)
         if [ "$word" = nonsense ]; then
             echo "src/main.rt:1: error: it is no program"
@@ -150,8 +156,10 @@ source_is() {
 as_at_first() {
     rm -rf "$top/build" "$XDG_CACHE_HOME" "$scratch/opt/rattle-kept"
     for crate in low left right other review_cli rollout_cli view_cli doctor_cli; do source_is "$crate" "${crate%_cli}"; done
-    echo 2 >"$top/crates/left/src/seconds"
-    echo 2 >"$top/crates/right/src/seconds"
+}
+# seen WORD FILE: the command by which the stand-in waits for a line of a file.
+seen() {
+    printf "grep -q '%s' '%s'" "$1" "$2"
 }
 
 # run COMMAND ..: the last run, by its output, error output and status.
@@ -191,14 +199,14 @@ line_of() { grep -n "^$1\$" "$scratch/diary" | head -n 1 | cut -d: -f1; }
 side_by_side() { [ "$(line_of "$1 $3")" -lt "$(line_of "$2 $4")" ] && [ "$(line_of "$1 $4")" -lt "$(line_of "$2 $3")" ]; }
 # Nothing of the run works on or lies about.
 nothing_left() {
-    for _ in $(seq 50); do
+    for _ in $(seq 300); do
         if ! pgrep -f "$kit/bin/rt|$TMPDIR" >/dev/null && [ -z "$(find "$TMPDIR" -mindepth 1)" ]; then return 0; fi
         sleep 0.1
     done
     return 1
 }
 until_diary_has() {
-    for _ in $(seq 200); do
+    for _ in $(seq 600); do
         grep -q "$1" "$scratch/diary" && return
         sleep 0.1
     done
@@ -234,7 +242,8 @@ wants "it builds nothing" built ""
 DIQENYU_PROVED=1 run launch review a b
 wants "what isn't built is refused where a proof is wanted" refused '^review: it is not proved on this machine; DIQENYU_PROVED wants a proved program: ./prove review makes it$'
 wants "and not built" built ""
-RT_SLOW=2 DIQENYU_PROGRESS=1 run launch review a b
+RT_LAST='.*' RT_WAITS="$(seen '0 of 4 programs built' "$scratch/err") && $(seen 'try rollout_cli' "$scratch/diary")" \
+    DIQENYU_PROGRESS=1 run launch review a b
 wants "the first run" is built review
 wants "it says what it begins" says '^review: building review, rollout, view and doctor without proofs, once: about [0-9]* seconds on [0-9]* processors$'
 wants "it says how far it is" says '^review: 0 of 4 programs built; [0-9]* seconds, some [0-9]* more by the table$'
@@ -247,6 +256,17 @@ run launch review a b
 wants "the second run" is built review
 wants "it says only what is known of its proof" says_only "$unproved_line"
 wants "it builds nothing" built ""
+# (files that were written within two seconds are read again at each run)
+touch "$top/crates/low/src/lib.rt"
+sleep 3
+mkdir "$scratch/counting"
+# shellcheck disable=SC2016
+printf '#!/bin/sh\necho "read $#" >>"$RT_DIARY"\nexec %s "$@"\n' "$(command -v sha256sum)" >"$scratch/counting/sha256sum"
+chmod +x "$scratch/counting/sha256sum"
+PATH=$scratch/counting:$PATH run launch review a b
+wants "the sources are read" grep -q '^read [1-9]' "$scratch/diary"
+PATH=$scratch/counting:$PATH run launch review a b
+wants "and what they make is remembered" [ "$(grep -c '^read [1-9]' "$scratch/diary"):$(cat "$scratch/out")" = "0:built review a b" ]
 run launch view a b
 wants "the others are built with it" is built view
 run launch --state view
@@ -255,6 +275,14 @@ run launch view --version
 wants "the version of an unproved program" [ "$(cat "$scratch/out")" = "view of Diqenyu 1.2.3, schema 1, not proved on this machine: ./prove view" ]
 DIQENYU_PROVED=1 run launch review a b
 wants "an unproved program is refused where a proof is wanted" refused 'DIQENYU_PROVED wants a proved program'
+
+# How long it takes still is said by the table until a program ends, and then by what that one took.
+rm -rf "$top/build"
+for name in review rollout view doctor; do echo "build $name 9000"; done >"$top/launching/weights"
+RT_LAST=view_cli RT_WAITS=$(seen '^review: [1-3] of 4 programs built' "$scratch/err") DIQENYU_PROGRESS=1 run launch review a b
+wants "a build's end" is built review
+wants "the first program that ends says how long the others take" says '^review: [1-3] of 4 programs built; [0-9]* seconds, \(longer than expected\|about [0-9]\{1,3\} more\)$'
+table >"$top/launching/weights"
 
 # By content, not by time.
 touch "$top/crates/left/src/lib.rt" "$top/crates.txt"
@@ -299,14 +327,15 @@ as_at_first
 
 # An end by a signal, and two calls at once.
 for signal in TERM INT; do
-    RT_SLOW=20 ended_by $signal 'try review_cli' launch review a b
+    RT_LAST='.*' RT_WAITS=false ended_by $signal 'try review_cli' launch review a b
     wants "a build's end by $signal has its status" [ "$status" = "$((128 + $(kill -l "$signal")))" ]
     wants "after $signal it says so" says '^review: interrupted; what is built is kept$'
     wants "after $signal nothing works on" nothing_left
     wants "after $signal nothing stands built" [ ! -e "$top/build/unproved/review" ]
 done
 : >"$scratch/diary"
-RT_SLOW=3 "$top/launch" review a b >"$scratch/first" 2>"$scratch/first.err" &
+RT_LAST=review_cli RT_WAITS=$(seen 'waiting for another call' "$scratch/err") \
+    "$top/launch" review a b >"$scratch/first" 2>"$scratch/first.err" &
 until_diary_has 'try review_cli'
 "$top/launch" review a b >"$scratch/out" 2>"$scratch/err"
 status=$?
@@ -317,11 +346,12 @@ wants "the first of two calls" cmp -s "$scratch/first" "$scratch/out"
 wants "they build each program once" built "doctor_cli review_cli rollout_cli view_cli "
 
 # ---- What is proved.
-DIQENYU_PROGRESS=1 run prove review
+RT_LAST='left|right' RT_WAITS="$(seen '1 of 4 crates proved, now .*left' "$scratch/err") && $(seen 'begin right' "$scratch/diary")" \
+    DIQENYU_PROGRESS=1 run prove review
 wants "a proof" [ "$status" = 0 ]
 wants "it says what it begins" says '^prove: proving review: 4 crates, some [0-9]* minutes* on [0-9]* processors by the table; the first crate that ends says it better$'
-wants "it says how far it is" says '^prove: 1 of 4 crates proved, now .*left.*; 0 minutes, about [0-9]* more$'
-wants "it says its end" says '^prove: review proved, in [0-9]* seconds$'
+wants "it says how far it is" says '^prove: 1 of 4 crates proved, now .*left.*; [0-9]* minutes, about [0-9]* more$'
+wants "it says its end" says '^prove: review proved, in [0-9]* \(seconds\|minutes\)$'
 wants "all crates of the program are proved, and no other" proved "left low review_cli right "
 if [ "$(nproc)" -gt 1 ]; then wants "independent crates are proved side by side" side_by_side begin end left right; fi
 wants "it leaves nothing lying about" nothing_left
@@ -410,9 +440,8 @@ wants "what had been proved is taken" proved "review_cli right "
 
 # While a proof works, others go on.
 source_is right slowly
-echo 12 >"$top/crates/right/src/seconds"
 : >"$scratch/diary"
-"$top/prove" review >"$scratch/first" 2>"$scratch/first.err" &
+RT_LAST=right RT_WAITS=$(seen hastily "$top/crates/right/src/lib.rt") "$top/prove" review >"$scratch/first" 2>"$scratch/first.err" &
 proof=$!
 until_diary_has 'begin right'
 "$top/launch" review a b >"$scratch/out" 2>"$scratch/err"
@@ -452,7 +481,7 @@ for kind in keeping old; do
     for signal in TERM INT; do
         source_is review_cli "$signal"
         [ $signal = TERM ] || source_is low more
-        ended_by $signal 'begin left' prove review
+        RT_LAST='left|right' RT_WAITS=false ended_by $signal 'begin left' prove review
         wants "$kind kit: a proof's end by $signal has its status" [ "$status" = "$((128 + $(kill -l "$signal")))" ]
         wants "$kind kit: after $signal it says how to go on" says '^prove: interrupted; the next ./prove goes on from the crates that are proved$'
         wants "$kind kit: after $signal nothing works on" nothing_left
@@ -470,7 +499,7 @@ for kind in keeping old; do
     wants "$kind kit: and all others" proved "doctor_cli other view_cli "
     source_is left again
     : >"$scratch/diary"
-    "$top/prove" review >"$scratch/first" 2>"$scratch/first.err" &
+    RT_LAST=left RT_WAITS=$(seen 'waiting for another call' "$scratch/err") "$top/prove" review >"$scratch/first" 2>"$scratch/first.err" &
     until_diary_has 'begin left'
     "$top/prove" review >"$scratch/out" 2>"$scratch/err"
     status=$?
@@ -499,7 +528,7 @@ wants "what they make is run" is proved review
 
 # ---- On a terminal one line moves.
 source_is left terminal
-python3 - "$top/prove" >"$scratch/out" 2>"$scratch/err" <<'PY'
+RT_LAST=left RT_WAITS=$(seen 'crates proved' "$scratch/seen") python3 - "$top/prove" "$scratch/seen" >"$scratch/out" 2>"$scratch/err" <<'PY'
 import os, pty, re, sys
 
 process, terminal = pty.fork()
@@ -513,8 +542,10 @@ while got:
         # (so a terminal's end is told)
         got = b""
     seen += got
+    with open(sys.argv[2], "wb") as file:
+        file.write(seen)
 moves = [it for it in seen.split(b"\r") if it.startswith(b"prove: ") and b" crates proved" in it and it.endswith(b"\x1b[K")]
-ends = re.search(rb"\x1b\[Kprove: review proved, in [0-9]+ seconds\s*$", seen)
+ends = re.search(rb"\x1b\[Kprove: review proved, in [0-9]+ (seconds|minutes)\s*$", seen)
 print("moves" if moves and ends and all(len(it) < 84 for it in moves) else repr(seen))
 PY
 wants "the line of a terminal" [ "$(cat "$scratch/out")" = moves ]
@@ -562,9 +593,11 @@ tell_once() {
     wants "$1 builds what isn't built" built "doctor_cli review_cli rollout_cli view_cli "
 }
 tell_once window "${network[@]}"
-wants "window tells what isn't proved" told_by window "doctor, review and rollout" "doctor review rollout"
+wants "window tells what isn't proved" told_by window "doctor, review, view and rollout" "doctor review view rollout"
 DIQENYU_PROVED=1 run window "${network[@]}"
 wants "window runs nothing unproved where a proof is wanted" refused '^doctor: it is not proved on this machine'
+DIQENYU_DOCTOR=$scratch/stranger DIQENYU_PROVED=1 run window "${network[@]}"
+wants "nor what the environment names" refused '^doctor: it is not proved on this machine'
 tell_once sweep compare "${network[@]}"
 wants "sweep tells what isn't proved" told_by sweep "review and view" "review view"
 DIQENYU_PROVED=1 run sweep compare "${network[@]}"
@@ -607,8 +640,9 @@ if unshare -m bash -c 'mount -t tmpfs none "$1"' bash "$TMPDIR" 2>/dev/null; the
     in_little_room "$TMPDIR" 16 prove review
     wants "no room for what is proved" refused '^prove: there is no room in '
     mkdir -p "$top/build/unproved"
-    head -c 100000 /dev/zero | tr '\0' x >>"$top/crates/review_cli/src/main.rt"
-    in_little_room "$TMPDIR" 150 launch review a b
+    # (room for the kit's module, but not for the one that is caught; once the kit's is gone there is room again)
+    head -c 300000 /dev/zero | tr '\0' x >>"$top/crates/review_cli/src/main.rt"
+    in_little_room "$TMPDIR" 450 launch review a b
     wants "no room for what is compiled" refused '^review: the program could not be built: there is no room in '
     in_little_room "$top/build/unproved" 4 launch review a b
     wants "no room for a program" refused '^review: the program could not be built'

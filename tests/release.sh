@@ -70,20 +70,36 @@ runs() {
 
 first=$scratch/first
 tree "$first"
+# (what Python leaves in a tree is no part of a release)
+mkdir -p "$first/windowing/__pycache__" && touch "$first/windowing/__pycache__/left.pyc"
 sleep 1
 (umask 077 && tree "$scratch/second/deeper")
 mapfile -t both < <("$first/release" 2>"$scratch/err")
 made=${both[0]:-none}
 package=${both[1]:-}
 wants "a release" test -s "$first/$made"
-mapfile -t others < <(cd / && umask 022 && TZ=Asia/Tokyo LC_ALL=C.UTF-8 "$scratch/second/deeper/release" 2>"$scratch/err")
+# as_another COMMAND ..: runs a command as a user that isn't root, where this one is.
+as_another() {
+    if [ "$(id -u)" = 0 ]; then
+        chmod 755 "$scratch"
+        chown -R 65534:65534 "$scratch/second"
+        setpriv --reuid=65534 --regid=65534 --clear-groups "$@"
+    else
+        "$@"
+    fi
+}
+mapfile -t others < <(cd / && umask 022 && TZ=Asia/Tokyo LC_ALL=C.UTF-8 as_another "$scratch/second/deeper/release" 2>"$scratch/err")
 again=${others[0]:-none}
 wants "it has one name" [ "$made" = "$again" ]
-wants "it has the same bytes from another folder, at another time, by another user's rights" cmp "$first/$made" "$scratch/second/deeper/$again"
+wants "it has the same bytes from another folder, at another time, by another user" cmp "$first/$made" "$scratch/second/deeper/$again"
 once=$(sha256sum <"$first/$made")
-"$first/release" >"$scratch/out" 2>"$scratch/err"
+DIQENYU_REVIEW=/bin/true "$first/release" >"$scratch/out" 2>"$scratch/err"
+status=$?
+wants "it is none of a program that the environment names" [ "$status" = 0 ]
 wants "it has the same bytes again" [ "$(sha256sum <"$first/$made")" = "$once" ]
 wants "no name in it has an owner or a time of its own" [ -z "$(tar --list --verbose --numeric-owner --full-time --utc --file "$first/$made" | grep -v ' 0/0 .* 1970-01-01 00:00:00 ')" ]
+in_order() { tar --list --file "$1" | tr / '\1' | LC_ALL=C sort --check 2>"$scratch/err"; }
+wants "its names are in order" in_order "$first/$made"
 
 # Unpacked in an empty folder, without the kit and the tree.
 mkdir "$scratch/unpacked"
@@ -108,6 +124,9 @@ for name in window wire prepare collect sweep; do
     said=$(env -i PATH=/usr/bin:/bin "$folder/$name" 2>&1 | head -n 1)
     wants "$name is in it, and finds what it is made of" [ "${said/"$name: Debian's package python3-"*" is missing"/usage:}" = "usage:" ]
 done
+# modules FOLDER: the files of the Python programs there.
+modules() { (cd "$1" && find launching windowing showing preparing wiring sweeping -type f ! -name '*.pyc' | sort); }
+wants "the Python programs are whole" runs 0 "" diff <(modules "$first") <(modules "$folder")
 wants "nothing that was built stands in it but the programs" [ -z "$(find "$folder" -name out -o -name crates)" ]
 
 # Installed from the archive, and from the tree, and taken away again.
@@ -140,6 +159,11 @@ if [ -n "$package" ]; then
     wants "it has the same bytes from another folder" cmp "$first/$package" "$scratch/second/deeper/${others[1]:-none}"
     wants "its version is that of the product" runs 0 "$(cat VERSION)" dpkg-deb --field "$first/$package" Version
     wants "it recommends what prepare, collect and pages use" runs 0 "python3-textfsm, python3-netmiko, python3-jinja2, graphviz, parallel" dpkg-deb --field "$first/$package" Recommends
+    dpkg-deb --raw-extract "$first/$package" "$scratch/raw"
+    wants "the sums of its files" runs 0 "" env -C "$scratch/raw" md5sum --check --quiet DEBIAN/md5sums
+    wants "the Python programs in it are whole" runs 0 "" diff <(modules "$first") <(modules "$scratch/raw/usr/lib/diqenyu")
+    wants "a completion in it has the command's name" grep -q '^complete -F _diqenyu diqenyu-window$' "$scratch/raw/usr/share/bash-completion/completions/diqenyu-window"
+    wants "each file has one" [ "$(wc -l <"$scratch/raw/DEBIAN/md5sums")" = "$(find "$scratch/raw" -path "$scratch/raw/DEBIAN" -prune -o -type f -print | wc -l)" ]
     dpkg-deb --contents "$first/$package" >"$scratch/contents"
     wants "it is root's" [ -z "$(grep -v ' root/root ' "$scratch/contents")" ]
     for path in bin/diqenyu-window bin/diqenyu-review bin/diqenyu-prepare lib/diqenyu/programs/view lib/diqenyu/windowing/window.py lib/diqenyu/launching/programs.py \

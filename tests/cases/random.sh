@@ -29,6 +29,11 @@ judge() {
     check "$name" "$wanted" "$scratch/wanted" "$scratch/nothing"
     by_workers "$name" "$wanted" "$scratch/wanted" compare "$@"
 }
+# within SECONDS COMMAND ..: runs a command that may take a processor so many seconds, however busy the machine is.
+within() (
+    ulimit -t "$1"
+    exec "${@:2}"
+)
 random=$scratch/random
 for seed in $(seq "$first" "$last"); do
     python3 tests/random_networks.py "$random" "$seed" || exit 2
@@ -54,8 +59,8 @@ for seed in $(seq "$first" "$last"); do
         by_workers "random network $seed, questions, TTL $ttl" "$wanted" "$scratch/wanted" ask "$random/old" "$random/links" "$random/questions" --ttl "$ttl"
     done
     # A window whose second opinion takes longer than this is left out.
-    timeout 20 python3 tests/random_windows.py "$random" "$seed" || continue
-    if timeout 60 python3 tests/rules.py edits "$random/old" "$random/links" "$random/edits" >"$scratch/wanted"; then
+    within 20 python3 tests/random_windows.py "$random" "$seed" || continue
+    if within 60 python3 tests/rules.py edits "$random/old" "$random/links" "$random/edits" >"$scratch/wanted"; then
         run_rollout edits "$random/old" "$random/links" "$random/edits"
         if [ "$status" != 3 ]; then
             edited=$((edited + 1))
@@ -64,7 +69,7 @@ for seed in $(seq "$first" "$last"); do
             check "random network $seed, edits" "$wanted" "$scratch/wanted" "$scratch/nothing"
         fi
     fi
-    timeout 60 python3 tests/rules.py rollout "$random/old" "$random/links" "$random/held" "$random/steps" >"$scratch/wanted" || continue
+    within 60 python3 tests/rules.py rollout "$random/old" "$random/links" "$random/held" "$random/steps" >"$scratch/wanted" || continue
     run_rollout rollout "$random/old" "$random/links" "$random/held" "$random/steps"
     [ "$status" = 3 ] && continue
     rolled=$((rolled + 1))

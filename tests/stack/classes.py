@@ -47,9 +47,11 @@ def valid_routes(router: Router) -> set[Route]:
 
 
 def installed_routes(router: Router) -> dict[Subnet, list[Route]]:
-    """The valid routes of each prefix that have its least distance."""
+    """The valid routes of each prefix that have its least distance, in the order of the router's lines."""
     found: dict[Subnet, list[Route]] = {}
-    for route in sorted(valid_routes(router), key=lambda one: one.distance):
+    valid = valid_routes(router)
+    in_turn = [route for route in dict.fromkeys([*connected(router), *router.routes]) if route in valid]
+    for route in sorted(in_turn, key=lambda one: one.distance):
         same = found.setdefault(route.prefix, [])
         if not same or same[0].distance == route.distance:
             same.append(route)
@@ -132,15 +134,14 @@ def is_no_neighbour(router: Router, address: int) -> bool:
     return address in last or address == 0 or address >= number("224.0.0.0")
 
 
-def refused_prefixes(router: Router, installed: dict[Subnet, list[Route]]) -> set[Subnet]:
-    """The prefixes that the kernel refuses, since a way of them leads straight to an address that no neighbour can have."""
-    found = set()
-    for prefix, routes in installed.items():
-        for route in routes:
-            behind = None if route.interface is not None or route.next_hop is None else best_prefix(installed, route.next_hop)
-            straight = behind is None or all(one.interface is not None and one.next_hop is None for one in installed[behind])
-            if straight and any(is_no_neighbour(router, gateway) for gateway in gateways(installed, route)):
-                found.add(prefix)
+def refused_routes(router: Router, installed: dict[Subnet, list[Route]]) -> list[Route]:
+    """The routes that lead straight to an address that no neighbour can have: the kernel refuses them, with all ways of their prefixes."""
+    found = []
+    for route in (route for routes in installed.values() for route in routes):
+        behind = None if route.interface is not None or route.next_hop is None else best_prefix(installed, route.next_hop)
+        straight = behind is None or all(one.interface is not None and one.next_hop is None for one in installed[behind])
+        if straight and any(is_no_neighbour(router, gateway) for gateway in gateways(installed, route)):
+            found.append(route)
     return found
 
 
@@ -148,12 +149,39 @@ def without_broadcast_hops(router: Router) -> Router:
     """No route of a prefix of which one way has a next hop that no neighbour can have, and none whose next hop is found by such a prefix."""
     while True:
         installed = installed_routes(router)
-        bad = refused_prefixes(router, installed)
+        bad = {route.prefix for route in refused_routes(router, installed)}
         if not bad:
             return router
         kept = [route for route in router.routes if route.prefix not in bad and not (
             route.interface is None and route.next_hop is not None and best_prefix(installed, route.next_hop) in bad)]
         router = router.changed(routes=tuple(kept))
+
+
+def unnamed_address(router: Router, installed: dict[Subnet, list[Route]], prefix: Subnet) -> Optional[int]:
+    """An address of an installed prefix that is in no longer one and isn't the router's own; None where the first thousands have none."""
+    own = {subnet.address for _, subnet in router.live()}
+    longer = [one for one in installed if one.length > prefix.length]
+    for address in range(prefix.first, min(prefix.last, prefix.first + 9999) + 1):
+        if address not in own and not any(one.holds(address) for one in longer):
+            return address
+    return None
+
+
+def with_own_hops(router: Router) -> Router:
+    """FRR refuses a next hop that is the router's own address only where a connected route finds it. Where another one does, the route counts:
+    it is written by another address of that one's prefix."""
+    while True:
+        installed = installed_routes(router)
+        own = {subnet.address for _, subnet in router.live()}
+        for k, route in enumerate(router.routes):
+            prefix = best_prefix(installed, route.next_hop) if route.interface is None and route.next_hop in own else None
+            if prefix is not None and route.distance < 255 and prefix != route.prefix and installed[prefix][0].distance != 0:
+                other = unnamed_address(router, installed, prefix)
+                if other is not None:
+                    router = router.changed(routes=router.routes[:k] + (route._replace(next_hop=other),) + router.routes[k + 1:])
+                    break
+        else:
+            return router
 
 
 def both_ends_shut(network: Network) -> Network:
@@ -173,6 +201,7 @@ def drawn_network(seed: int, routers: tuple[int, int] = (3, 5)) -> Network:
 REWRITINGS: dict[str, Rewriting] = {
     "next hop in the route's own prefix": every_router(without_own_prefix),
     "next hop that no neighbour can have": every_router(without_broadcast_hops),
+    "next hop that is the router's own address": every_router(with_own_hops),
     "one end of a p2p is shut": both_ends_shut,
 }
 SEVERAL = "several of these at once"

@@ -117,8 +117,8 @@ class FailureTrial(Trial):
         return None
 
 
-def try_failures(seed: int, count: int, program: str, folder: str, tally: Tally, as_written: bool = False) -> int:
-    """Tries packets on a network without failure and on some days with one; gives how many days there were.
+def try_failures(seed: int, count: int, program: str, folder: str, tally: Tally, as_written: bool = False) -> None:
+    """Tries packets on a network without failure and on some days with one.
 
     Args:
         as_written: leaves defaults by next hop alone, as the spoiler has it.
@@ -126,23 +126,21 @@ def try_failures(seed: int, count: int, program: str, folder: str, tally: Tally,
     network = FloatingMaker(seed).network()
     draw = random.Random(seed)
     trial = FailureTrial(network, network, program, folder, tally)
-    days = 0
     before = len(tally.differences)
     try:
         texts = prepared(network, os.path.join(folder, "raw"), as_written)
-        for places in failures(network, draw, 3):
+        for day, places in enumerate(failures(network, draw, 3)):
             failed = shut_places(network, places)
             change(trial, failed, places, up=False)
-            links, day = os.path.join(folder, "raw", "links"), os.path.join(folder, f"day{days}")
-            verifier = PreparedVerifier(program, texts, links, places, day)
-            judge = FailureJudge(program, os.path.join(folder, f"judge{days}"), tally)
+            links = os.path.join(folder, "raw", "links")
+            verifier = PreparedVerifier(program, texts, links, places, os.path.join(folder, f"day{day}"))
+            judge = FailureJudge(program, os.path.join(folder, f"judge{day}"), tally)
             judge.use(failed, verifier)
             trial.network, trial.judge = failed, judge
-            drawer = Drawer(failed, seed * 16 + days)
+            drawer = Drawer(failed, seed * 16 + day)
             trial.try_packets([drawer.packet() for _ in range(count)])
             change(trial, network, places, up=True)
-            days += 1
+            tally.days += 1
     finally:
         trial.close()
     tally.differences[before:] = [f"failures {seed}: {text}" for text in tally.differences[before:]]
-    return days

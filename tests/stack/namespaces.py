@@ -10,11 +10,19 @@ import subprocess
 from typing import Iterable, Iterator, Optional, Sequence
 
 CLONE_NEWNET = 0x40000000
+# No longer than so many seconds a command may take, or a wait for a state of the stack.
+LONGEST = 60
+# The FRR whose daemons the run knows how to configure.
+FRR = "8"
 libc = ctypes.CDLL(None, use_errno=True)
 
 
 class StackError(Exception):
     """Something of the stack couldn't be set up."""
+
+
+class NotSettled(StackError):
+    """The stack didn't come to rest: what it does with packets would be no answer."""
 
 
 def checked(result: int) -> None:
@@ -106,9 +114,13 @@ class Namespace:
 
         Raises:
             StackError: it failed, unless it may.
+            NotSettled: it doesn't end.
         """
-        with self.entered():
-            done = subprocess.run(words, input=text, capture_output=True, text=True, timeout=60)
+        try:
+            with self.entered():
+                done = subprocess.run(words, input=text, capture_output=True, text=True, timeout=LONGEST)
+        except subprocess.TimeoutExpired as late:
+            raise NotSettled(f"{' '.join(words)}: not ended after {LONGEST} seconds") from late
         if done.returncode != 0 and not fails:
             raise StackError(f"{' '.join(words)}: {done.stderr.strip() or done.stdout.strip()}")
         return done
@@ -142,12 +154,32 @@ def missing() -> Optional[str]:
     if os.geteuid() != 0:
         return "it wants root"
     tools = {"ip": "iproute2", "nft": "nftables", "/usr/lib/frr/zebra": "frr", "/usr/lib/frr/staticd": "frr"}
-    folders = os.environ.get("PATH", "").split(":") + ["/usr/sbin", "/sbin"]
+    folders = os.environ["PATH"].split(":")
     for tool, package in tools.items():
         if not any(os.access(os.path.join(folder, tool), os.X_OK) for folder in folders):
             return f"{tool} isn't there (Debian: {package})"
+    version = subprocess.run(["/usr/lib/frr/zebra", "--version"], capture_output=True, text=True).stdout.partition("\n")[0]
+    if f" {FRR}." not in version:
+        return f"it wants FRR {FRR}: {version or 'zebra tells no version'}"
     try:
-        Namespace().close()
+        return missing_in_kernel()
     except OSError as error:
         return f"no network namespace can be made: {error.strerror}"
+
+
+def missing_in_kernel() -> Optional[str]:
+    """What this kernel doesn't have, or None: pairs of interfaces, bridges, and nftables' hook for what leaves by an interface.
+
+    Raises:
+        OSError: it makes no namespace.
+    """
+    probe = Namespace()
+    try:
+        probe.ip(["link add one type veth peer name other", "link add both type bridge"])
+        hook = "type filter hook egress device one priority 0;"
+        probe.run(["nft", "-f", "-"], f"table netdev probe {{\nchain leaving {{ {hook} }}\n}}\n")
+    except StackError as error:
+        return f"the kernel can't do it: {str(error).partition(chr(10))[0]}"
+    finally:
+        probe.close()
     return None

@@ -1,24 +1,30 @@
 """Packets through one network: what the stack did of each, beside what the verifier says."""
+import contextlib
 import os
 import shutil
 from collections import Counter
 from dataclasses import dataclass, field
-from typing import Optional
+from typing import Iterator, Optional
 
 import packets
 from classes import Case, classify
 from headers import ICMP_QUERIES, Drawer, Header, Packet
+from namespaces import NotSettled
 from networks import Network, dotted
-from topology import Caught, Topology
+from topology import QUIET, Caught, Topology
 from verifier import Trace, Verifier
 
 FIELDS = ("src", "dst", "sport", "dport")
+# A packet that differs is sent by itself so many times, and waited for so many seconds, before it is a difference.
+ALONE = (0.05, 0.3, 1.5)
 
 
 @dataclass
 class Tally:
     """What a run has counted."""
 
+    built: int = 0
+    unsettled: list[str] = field(default_factory=list)
     networks: int = 0
     packets: int = 0
     lookups: int = 0
@@ -35,6 +41,19 @@ class Tally:
         self.outside += 1
         if len(self.differences) < 50:
             self.differences.append(text)
+
+    @contextlib.contextmanager
+    def settled(self, name: str) -> Iterator[None]:
+        """Counts a stack that is built and tried here; one that doesn't settle is noted, since what it does says nothing of the rules."""
+        self.built += 1
+        try:
+            yield
+        except NotSettled as error:
+            self.unsettled.append(f"{name}: {error}")
+
+    def is_restless(self) -> bool:
+        """Whether so many stacks didn't settle that the run says nothing: more than two, and more than a tenth."""
+        return len(self.unsettled) > max(2, self.built // 10)
 
 
 class Judge:
@@ -107,21 +126,24 @@ class Trial:
         os.makedirs(folder)
         os.chmod(folder, 0o755)
         self.judge = Judge(program, folder, tally)
-        self.topology = Topology(stack, os.path.join(folder, "run"), order, more_hops)
         self.number = 0
+        try:
+            self.topology = Topology(stack, os.path.join(folder, "run"), order, more_hops)
+        except BaseException:
+            shutil.rmtree(folder, ignore_errors=True)
+            raise
 
     def close(self) -> None:
         self.topology.close()
         shutil.rmtree(self.folder, ignore_errors=True)
 
-    def carried(self, drawn: list[Packet], quiet: float) -> list[str]:
-        """What the stack does with these packets."""
+    def carried(self, drawn: list[Packet], quiet: float = QUIET) -> list[str]:
+        """What the stack does with these packets, by what came out until nothing came for so many seconds."""
         numbered = list(enumerate(drawn, self.number))
         self.number += len(drawn)
         for _ in range(3):
             self.topology.forget()
-            self.topology.carry(numbered)
-            self.topology.read(quiet)
+            self.topology.carry(numbered, quiet)
             if not self.topology.overrun:
                 break
         return [observed(self.network, packet.header, self.topology.caught.get(number, [])) for number, packet in numbered]
@@ -130,29 +152,35 @@ class Trial:
         """Judges these packets, each alone once more where it differs."""
         self.tally.packets += len(drawn)
         left = []
-        for packet, text in zip(drawn, self.carried(drawn, 0.2)):
+        for packet, text in zip(drawn, self.carried(drawn)):
             if self.judged(packet, text) is not None:
                 left.append(packet)
         for packet in left:
-            text = self.alone(packet)
-            difference = self.judged(packet, text)
+            difference = self.judged_alone(packet)
             if difference is None:
                 self.tally.again += 1
             else:
                 self.tally.differs(difference)
 
-    def notices(self, drawn: list[Packet]) -> bool:
-        """Whether one of these packets differs outside the classes, also when it is sent alone; the first one ends the search."""
-        self.tally.packets += len(drawn)
-        for packet, text in zip(drawn, self.carried(drawn, 0.2)):
-            if self.judged(packet, text) is not None and self.judged(packet, self.alone(packet)) is not None:
-                return True
-        return False
+    def judged_alone(self, packet: Packet) -> Optional[str]:
+        """Counts a packet that agrees, or is in a class, one of the times that it is sent by itself; gives the words of a difference."""
+        difference = None
+        for quiet in ALONE:
+            difference = self.judged(packet, self.alone(packet, quiet))
+            if difference is None:
+                return None
+        return difference
 
-    def alone(self, packet: Packet) -> str:
+    def first_difference(self, drawn: list[Packet]) -> Optional[Packet]:
+        """The first of these packets that differs outside the classes, also when it is sent alone, or None."""
+        self.tally.packets += len(drawn)
+        return next((packet for packet, text in zip(drawn, self.carried(drawn))
+                     if self.judged(packet, text) is not None and self.judged_alone(packet) is not None), None)
+
+    def alone(self, packet: Packet, quiet: float) -> str:
         """What becomes of a packet that is sent by itself. An expiry of which no router tells is seen by the kernels' counters."""
         before = self.topology.expiries()
-        text = self.carried([packet], 0.1)[0]
+        text = self.carried([packet], quiet)[0]
         if text == "drop" and is_never_told(packet.header) and self.topology.expiries() == before + 1:
             self.tally.counted += 1
             return "expired"

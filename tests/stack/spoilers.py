@@ -10,7 +10,7 @@ from typing import Callable, Iterator, Optional
 from classes import drawn_network, rewritten
 from failures import try_failures
 from filters import LIST_FIRST, PLAIN_FIRST, TRANSLATION_FIRST
-from headers import Drawer
+from headers import Drawer, Packet
 from networks import ANY, NULL, Block, Entry, FlagTest, Interface, Network, PortTest, Route, Router, Rule, Subnet
 from orders import deciding
 from runs import Tally, Trial
@@ -99,9 +99,9 @@ def other_side(interface: Interface) -> Optional[Interface]:
     return dataclasses.replace(interface, side="inside" if interface.side == "outside" else "outside")
 
 
-def used_lists(router: Router) -> set[str]:
+def used_lists(router: Router) -> list[str]:
     named = {one for interface in router.interfaces.values() if interface.live() for one in (interface.list_in, interface.list_out)}
-    return {name for name in router.lists if name in named}
+    return [name for name in router.lists if name in named]
 
 
 def entries(spoilt: Callable[[Entry], Optional[Entry]]) -> Spoiler:
@@ -305,7 +305,7 @@ ALL = [*NETWORKS, *ORDERS, TTL, AS_WRITTEN]
 # of so many that are drawn, of which the second opinion says that the rule decides.
 TRIES, PACKETS, DRAWN, SENT = 12, 500, 1500, 40
 # The first network to try, where what is spoiled seldom decides a packet.
-FIRST: dict[str, int] = {}
+FIRST = {AS_WRITTEN: 8}
 
 
 def spoiled(name: str, network: Network, draw: random.Random) -> Optional[Network]:
@@ -323,9 +323,10 @@ def spoiled(name: str, network: Network, draw: random.Random) -> Optional[Networ
 
 
 def is_noticed(name: str, program: str, folder: str, tally: Tally) -> Optional[int]:
-    """The number of a network in which a run with this spoiler notices, of some that have what it spoils, or None."""
+    """The number of a network in which a run with this spoiler notices, and without it finds no difference, of some that have what it
+    spoils, or None."""
     if name == AS_WRITTEN:
-        return default_is_noticed(program, folder)
+        return default_is_noticed(program, folder, tally)
     tried = 0
     first = FIRST.get(name, 1)
     for seed in range(first, first + 400):
@@ -340,22 +341,31 @@ def is_noticed(name: str, program: str, folder: str, tally: Tally) -> Optional[i
             if not drawn:
                 continue
         tried += 1
-        trial = Trial(network, stack, program, os.path.join(folder, f"spoiled{seed}"), tally, ORDERS.get(name, ""), int(name == TTL))
-        try:
-            if trial.notices(drawn):
+        with tally.settled(f"network {seed}"):
+            place = os.path.join(folder, f"spoiled{seed}")
+            found = first_difference(Trial(network, stack, program, place, tally, ORDERS.get(name, ""), int(name == TTL)), drawn)
+            if found is not None and first_difference(Trial(network, network, program, place, tally), [found]) is None:
                 return seed
-        finally:
-            trial.close()
         if tried == TRIES:
             break
     return None
 
 
-def default_is_noticed(program: str, folder: str) -> Optional[int]:
+def first_difference(trial: Trial, drawn: list[Packet]) -> Optional[Packet]:
+    """The first of these packets that differs, in a trial that ends with it."""
+    try:
+        return trial.first_difference(drawn)
+    finally:
+        trial.close()
+
+
+def default_is_noticed(program: str, folder: str, tally: Tally) -> Optional[int]:
     """The number of a network in which a run notices that defaults by next hop alone, as they were written, stay where their subnet is down."""
-    tally = Tally()
-    for seed in range(1, TRIES):
-        try_failures(seed, PACKETS // 5, program, os.path.join(folder, f"written{seed}"), tally, as_written=True)
-        if tally.outside:
-            return seed
+    for seed in range(FIRST[AS_WRITTEN], FIRST[AS_WRITTEN] + TRIES):
+        as_prepared = Tally()
+        with tally.settled(f"failures {seed}"):
+            try_failures(seed, PACKETS // 5, program, os.path.join(folder, f"written{seed}"), tally, as_written=True)
+            if tally.outside:
+                try_failures(seed, PACKETS // 5, program, os.path.join(folder, f"prepared{seed}"), as_prepared)
+                return seed if not as_prepared.outside else None
     return None

@@ -20,7 +20,7 @@ import packets
 from daemons import Daemons, begin
 from filters import COLLECTOR, ruleset
 from headers import Packet
-from namespaces import Namespace, StackError
+from namespaces import LONGEST, Namespace, NotSettled, StackError
 from networks import Interface, Network, Place, Segment, dotted
 
 ETH_P_ALL = 3
@@ -29,8 +29,10 @@ PACKET_STATISTICS = 6
 PACKET_IGNORE_OUTGOING = 23
 # So many packets are sent before what came out is read.
 BURST = 24
-# No longer than this the run waits for what is on its way, in seconds.
-QUIET = 0.12
+# Nothing is on its way where the kernels' queues are empty and nothing has come for so many seconds.
+QUIET = 0.02
+# A neighbour that hasn't answered three times within so many milliseconds is given up: a busy machine's host may take its time.
+ANSWERS = 1000
 
 
 class Caught(NamedTuple):
@@ -100,8 +102,7 @@ class Topology:
         self.outside.ip(self.link_lines())
         self.build_lans()
         for place in self.network.places():
-            # A neighbour that doesn't answer is given up soon.
-            self.routers[place.router].set(f"net/ipv4/neigh/{place.interface}/retrans_time_ms", 20)
+            self.routers[place.router].set(f"net/ipv4/neigh/{place.interface}/retrans_time_ms", ANSWERS)
             self.routers[place.router].set(f"net/ipv4/neigh/{place.interface}/unres_qlen_bytes", 1 << 20)
         for name, namespace in self.routers.items():
             namespace.ip(self.router_lines(name))
@@ -174,9 +175,9 @@ class Topology:
         """Waits until the kernel has opened the queues of all interfaces that are up, which it does some time after their links came up.
 
         Raises:
-            StackError: that takes too long.
+            NotSettled: that takes too long.
         """
-        end = time.monotonic() + 20
+        end = time.monotonic() + LONGEST
         for name, router in self.network.routers.items():
             wanted = {one for one, interface in router.interfaces.items() if is_up(interface) and self.has_carrier(Place(name, one))}
             while True:
@@ -184,7 +185,7 @@ class Topology:
                 if wanted <= {words[0].partition("@")[0] for words in lines if words[1] == "UP"}:
                     break
                 if time.monotonic() > end:
-                    raise StackError(f"the links of {name} don't come up")
+                    raise NotSettled(f"the links of {name} don't come up")
                 time.sleep(0.05)
 
     def has_carrier(self, place: Place) -> bool:
@@ -238,19 +239,31 @@ class Topology:
                 raise StackError(f"nothing can be sent to {place.router} {place.interface}: {error.strerror}") from error
         self.sent += 1
 
-    def read(self, seconds: float) -> int:
-        """Reads what came out until nothing comes for so long; gives how many frames there were."""
-        count = 0
-        outside = self.sockets["outside"]
-        while select.select([outside], [], [], seconds)[0]:
-            while True:
-                try:
-                    data, where = outside.recvfrom(2048)
-                except BlockingIOError:
-                    break
-                count += 1
-                self.take(data, where[0])
-        return count
+    def read(self) -> None:
+        """Reads what has come out so far."""
+        while True:
+            try:
+                data, where = self.sockets["outside"].recvfrom(2048)
+            except BlockingIOError:
+                return
+            self.take(data, where[0])
+
+    def read_all(self, quiet: float) -> None:
+        """Reads what comes out until nothing is on its way: no kernel has a packet in a queue, and nothing comes for so many seconds.
+
+        Raises:
+            NotSettled: that takes too long.
+        """
+        end = time.monotonic() + LONGEST
+        since = time.monotonic()
+        while time.monotonic() < end:
+            waiting = softnet(BACKLOG) > 0
+            if select.select([self.sockets["outside"]], [], [], quiet / 4)[0] or waiting:
+                self.read()
+                since = time.monotonic()
+            elif time.monotonic() - since >= quiet:
+                return
+        raise NotSettled("packets are on their way for too long")
 
     def take(self, data: bytes, device: str) -> None:
         """Takes a frame that came outside by a device."""
@@ -283,18 +296,22 @@ class Topology:
         reply = struct.pack("!HHBBH6s4s6s4s", 1, 0x0800, 6, 4, 2, own, asked, asker, data[28:32])
         self.sockets["outside"].sendto(asker + own + b"\x08\x06" + reply, (lan, 0))
 
-    def carry(self, numbered: Iterable[tuple[int, Packet]]) -> None:
-        """Sends packets, each under its number, and reads what comes out."""
-        dropped = backlog_drops()
+    def carry(self, numbered: Iterable[tuple[int, Packet]], quiet: float = QUIET) -> None:
+        """Sends packets, each under its number, and reads what comes out until nothing has come for so many seconds.
+
+        Raises:
+            NotSettled: packets are on their way for too long, or some were lost where they are caught.
+        """
+        dropped = softnet(DROPPED)
         for k, (number, packet) in enumerate(numbered, 1):
             self.send(packet, number)
             if k % BURST == 0:
-                self.read(0)
-        self.read(QUIET)
+                self.read()
+        self.read_all(quiet)
         lost = struct.unpack("II", self.sockets["outside"].getsockopt(SOL_PACKET, PACKET_STATISTICS, 8))[1]
         if lost:
-            raise StackError(f"the socket that catches packets lost {lost}")
-        self.overrun = backlog_drops() != dropped
+            raise NotSettled(f"the socket that catches packets lost {lost}")
+        self.overrun = softnet(DROPPED) != dropped
 
     def forget(self) -> None:
         self.caught.clear()
@@ -318,7 +335,12 @@ class Topology:
         self.namespaces = []
 
 
-def backlog_drops() -> int:
-    """How many packets the machine's processors have dropped for want of room in their queues."""
+# Columns of softnet_stat: packets dropped for want of room, and packets that wait.
+DROPPED, BACKLOG = 1, 11
+
+
+def softnet(column: int) -> int:
+    """The sum of a column of what the kernel tells of its processors' queues, those of all namespaces; 0 where it doesn't tell it."""
     with open("/proc/net/softnet_stat") as file:
-        return sum(int(line.split()[1], 16) for line in file)
+        rows = [line.split() for line in file]
+    return sum(int(row[column], 16) for row in rows if len(row) > column)
