@@ -29,6 +29,7 @@ def mask_of(length):
     return ALL_ONES << (32 - length) & ALL_ONES
 
 
+@functools.lru_cache(maxsize=1 << 10)
 def length_of(mask):
     """The prefix length of a mask, or None where its ones don't stand in front of its zeros."""
     length = bin(mask).count("1")

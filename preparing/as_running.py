@@ -79,9 +79,9 @@ class Exits:
                 continue
             other = self.other_way(static, way)
             if other is not None:
-                tell(told, block.head, "kept", "%s leads to its next hop too, where %s is down" % (" ".join(other.line.words()[2:]), way))
+                tell(told, block.head, "kept", "%s leads to its next hop too if %s is down" % (" ".join(other.line.words()[2:]), way))
                 continue
-            tell(told, block.head, "replaced", "out of %s, while which is up a router uses it" % way)
+            tell(told, block.head, "replaced", "out of %s: a router uses it only while that interface is up" % way)
             words = block.words()
             block.head = block.head.again(" ".join(words[:4] + [way] + words[4:]))
             self.bound[id(block)] = way

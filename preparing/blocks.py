@@ -3,8 +3,9 @@
 The division is the verifier's: an indented line belongs to the last line at the margin, and the text of a banner to its banner.
 """
 from dataclasses import dataclass, field
+from typing import Any
 
-from .texts import Line, is_indented, says_something, words_of
+from .texts import is_indented, says_something, words_of
 
 
 @dataclass
@@ -12,19 +13,27 @@ class Block:
     """A line at the margin with what stands below it. The first block of a file may have no line of its own, and a banner's body
     is its text, which is never read as commands."""
 
-    head: Line = None
+    head: Any = None
     body: list = field(default_factory=list)
     is_banner: bool = False
-    known: tuple = (None, ())
+    # (each step of a preparation asks for the words)
+    known: tuple = (None, [], "")
 
     def words(self):
-        """The words of the line at the margin."""
-        if self.head is None or self.is_banner:
-            return []
-        # (asked for by each step of a preparation)
+        """The words of the line at the margin, which is a list of the block's own: nobody changes it."""
         if self.known[0] is not self.head:
-            self.known = self.head, self.head.words()
-        return list(self.known[1])
+            self.know(self.head.words())
+        return self.known[1]
+
+    def command(self):
+        """The first word of the line at the margin; "" where it has none. Steps leave out by it what they have nothing to do with."""
+        if self.known[0] is not self.head:
+            self.know(self.head.words())
+        return self.known[2]
+
+    def know(self, words):
+        """Keeps the words of the line at the margin; a banner's are no command."""
+        self.known = (self.head, [], "") if self.is_banner else (self.head, words, words[0] if words else "")
 
     def inner(self):
         """The commands below, without blank lines and comments."""
@@ -76,8 +85,10 @@ def blocks_of(lines):
                 blocks.append(Block())
             blocks[-1].body.append(line)
         else:
-            banner = words_of(line.text)[0] == "banner"
+            words = words_of(line.text)
+            banner = words[0] == "banner"
             blocks.append(Block(line, [], banner))
+            blocks[-1].know(words)
             if banner:
                 delimiter, opened = banner_delimiter(line), line
     if delimiter is not None:

@@ -6,7 +6,7 @@ from .addresses import is_number
 from .blocks import Block
 from .list_editing import list_of, range_kind
 
-NOT_IPV4 = "nothing of IPv4 hangs on it"
+NOT_IPV4 = "IPv4 doesn't depend on it"
 # Commands of IPv6 that the verifier refuses; the others are passed over.
 IPV6_GLOBAL = (["ipv6", "unicast-routing"], ["ipv6", "route"])
 IPV6_INTERFACE = (["ipv6", "address"], ["ipv6", "enable"])
@@ -21,6 +21,8 @@ SHOWN_BY = re.compile(r"(sh\w* +(run|startup|conf)|ter\w* |mor\w* |wr\w* +t|en\w
 
 def remove(device, told, unwanted, reason):
     """Leaves out the blocks that are unwanted, whose comments stay, each told with its reason."""
+    if not any(map(unwanted, device.blocks)):
+        return
     kept = []
     for block in device.blocks:
         if unwanted(block):
@@ -50,13 +52,15 @@ def is_list_of_others(words, used):
 
 def names_in_use(blocks):
     """The names of all lists that interfaces name."""
-    return {line.words()[2] for block in blocks if block.words()[:1] == ["interface"] for line in block.inner()
+    return {line.words()[2] for block in blocks if block.command() == "interface" for line in block.inner()
             if line.words()[:2] == ["ip", "access-group"] and len(line.words()) > 2}
 
 
 def is_setting(words):
     """Whether words at the margin set how lists log, how they are compiled, or how static routes are watched."""
-    if words[:1] == ["access-list"]:
+    if words[:1] not in (["access-list"], ["ip"]):
+        return False
+    if words[0] == "access-list":
         return words[1:2] != [] and words[1] in ACCESS_LIST_SETTINGS
     if words[:2] == ["ip", "access-list"]:
         return words[2:3] != [] and words[2] in LIST_SETTINGS
@@ -66,18 +70,20 @@ def is_setting(words):
 def leave_out_others(device, told):
     """Leaves out what has no part in forwarding IPv4."""
     used = names_in_use(device.blocks)
-    remove(device, told, lambda block: any(block.words()[:2] == words for words in IPV6_GLOBAL), NOT_IPV4)
+    remove(device, told, lambda block: block.command() == "ipv6" and block.words()[:2] in IPV6_GLOBAL, NOT_IPV4)
     remove(device, told, lambda block: is_setting(block.words()), "it decides no packet")
     remove(device, told, lambda block: is_list_of_others(block.words(), used), "no access-group names the list, and %s" % NOT_IPV4)
     for block in device.blocks:
-        if block.words()[:1] == ["interface"]:
-            for line in [line for line in block.inner() if line.words()[:2] in IPV6_INTERFACE]:
+        if block.command() == "interface":
+            for line in [line for line in block.inner() if "ipv6" in line.text and line.words()[:2] in IPV6_INTERFACE]:
                 told.line(line, "left out", NOT_IPV4)
                 block.body.remove(line)
 
 
 def emptied(block):
     """The kind, or None where it isn't written, and the name of the list that a line at the margin takes away; None for other lines."""
+    if block.command() != "no":
+        return None
     words = block.words()
     if words[:3] == ["no", "ip", "access-list"] and len(words) > 3:
         rest = words[3:]

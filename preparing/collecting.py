@@ -13,8 +13,8 @@ import time
 from concurrent.futures import ThreadPoolExecutor
 from dataclasses import dataclass
 
-import netmiko
-import paramiko
+import netmiko  # type: ignore[import]
+import paramiko  # type: ignore[import]
 
 from .addresses import is_number
 from .faults import Fault, Faults, Refused, Unreached

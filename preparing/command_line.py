@@ -1,5 +1,6 @@
 """The words of the command lines, and how a program ends."""
 from dataclasses import dataclass
+from typing import Optional
 
 from .faults import Fault, Faults, Usage
 from .told import print_lines
@@ -18,14 +19,14 @@ class PrepareWords:
 
     configs: str
     out: str
-    routes: str = None
-    vrf: str = None
-    active: str = None
-    tickets: str = None
+    routes: Optional[str] = None
+    vrf: Optional[str] = None
+    active: Optional[str] = None
+    tickets: Optional[str] = None
     keep_static: bool = False
     check: bool = False
     as_written: bool = False
-    waivers: str = None
+    waivers: Optional[str] = None
     by_table: frozenset = frozenset()
 
 

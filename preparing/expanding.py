@@ -36,9 +36,9 @@ class Item:
 def list_name(block):
     """The name of the extended list to which a block's lines belong, or None."""
     words = block.words()
-    if words[:1] == ["access-list"] and len(words) > 2:
+    if block.command() == "access-list" and len(words) > 2:
         return words[1]
-    if words[:3] == ["ip", "access-list", "extended"] and len(words) > 3:
+    if block.command() == "ip" and words[:3] == ["ip", "access-list", "extended"] and len(words) > 3:
         return words[3]
     return None
 
@@ -213,7 +213,7 @@ def new_block(name, head, items, factor_and_entries, told):
             continue
         if has_parts(item):
             text = " ".join(item.words)
-            block.body.append(item.line.again(" remark entry %d: %s" % (item.sequence, text)))
+            block.body.append(item.line.again(" remark entry %d: %s" % (item.sequence, text), item.sequence))
             told.line(item.line, "expanded", "%d entries of list %s from number %d on, by its %s"
                       % (len(entries), name, item.sequence * factor, "groups" if names_groups(item) else "ports"))
         elif " ".join(item.line.words()) != "%d %s" % (item.sequence * factor, " ".join(item.words)):
@@ -257,6 +257,8 @@ def expand_groups(device, told):
             if new[name] is not None:
                 blocks.append(new[name])
                 new[name] = None
+            elif block.words()[0] == "ip":
+                told.line(block.head, "left out", "what stands below it is in the section of line %d" % heads[name].number)
             blocks += [Block(None, kept)] if kept else []
         elif is_group(block):
             use = "its entries are written out" if block.words()[2] in groups.used else "no entry names it"

@@ -1,6 +1,7 @@
 """What the covered lines of a configuration say: its hostname, its interfaces with their addresses, its static routes."""
 import functools
 from dataclasses import dataclass, field
+from typing import Optional
 
 from .addresses import address_of, is_number, length_of, mask_of
 from .faults import Refused
@@ -12,7 +13,7 @@ class Interface:
     """An interface as its sections say: addresses with their prefix lengths, the primary one first, and whether it is shut."""
 
     name: str
-    primary: tuple = None
+    primary: Optional[tuple] = None
     secondary: list = field(default_factory=list)
     shut: bool = False
 
@@ -40,7 +41,7 @@ class Static:
 
 def hostname_of(path, blocks):
     """The hostname of a configuration."""
-    names = [block for block in blocks if block.words()[:1] == ["hostname"]]
+    names = [block for block in blocks if block.command() == "hostname"]
     if not names:
         raise Refused(path, 0, "NoHostname")
     if len(names[-1].words()) < 2:
@@ -50,7 +51,7 @@ def hostname_of(path, blocks):
 
 def is_interface(block):
     """Whether a block is the section of an interface."""
-    return block.words()[:1] == ["interface"] and len(block.words()) > 1
+    return block.command() == "interface" and len(block.words()) > 1
 
 
 def subnet_of(line, words):
@@ -93,7 +94,8 @@ def interfaces_of(blocks):
 
 def is_static(block):
     """Whether a line is a static route."""
-    return block.words()[:2] == ["ip", "route"] and block.words()[2:3] not in (["profile"], ["static"])
+    words = block.words() if block.command() == "ip" else []
+    return words[1:2] == ["route"] and words[2:3] not in (["profile"], ["static"])
 
 
 @functools.lru_cache(maxsize=1 << 12)

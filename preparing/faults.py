@@ -90,6 +90,16 @@ class NotFound(Fault):
         return "not found %s" % self.path
 
 
+class ProcessDied(Fault):
+    """A process of its own that did a part of the work ended without an answer, as where the system has no memory for it."""
+
+    status = 7
+
+    def line(self):
+        """The line that is printed."""
+        return "no memory: a process that prepared files died"
+
+
 class Unreached(Fault):
     """A device gave no whole answer."""
 

@@ -35,8 +35,8 @@ class Group:
 
 def is_group(block):
     """Whether a block is a group that an access list of IPv4 may name."""
-    words = block.words()
-    return words[:1] == ["object-group"] and words[1:2] != [] and words[1] in KINDS
+    words = block.words() if block.command() == "object-group" else []
+    return len(words) > 1 and words[1] in KINDS
 
 
 def groups_of(blocks):

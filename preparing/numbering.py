@@ -50,7 +50,7 @@ def number_names(device, told):
     replaced = {}
     for block in device.blocks:
         words = block.words()
-        if words[:1] == ["access-list"]:
+        if block.command() == "access-list":
             block.head = in_line(block.head, 2, replaced)
         elif words[:3] == ["ip", "access-list", "extended"]:
             block.body = [in_line(line, None, replaced) for line in block.body]

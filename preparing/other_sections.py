@@ -7,7 +7,7 @@ from .commands import need, resolve
 from .list_users import MOVES
 
 FOLLOWS = "what a protocol does by it isn't in the model"
-NOT_IPV4 = "nothing of IPv4 hangs on it"
+NOT_IPV4 = "IPv4 doesn't depend on it"
 
 
 class OtherSections:

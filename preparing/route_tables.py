@@ -2,8 +2,9 @@
 import os
 import re
 from dataclasses import dataclass, field, replace
+from typing import Optional
 
-import textfsm
+import textfsm  # type: ignore[import]
 
 from .addresses import address_of, dotted, holds, length_of, mask_of, natural_length
 from .faults import Refused
@@ -50,10 +51,10 @@ class Table:
 
     path: str
     routes: list = field(default_factory=list)
-    gateway: int = None
-    default: int = None
+    gateway: Optional[int] = None
+    default: Optional[int] = None
     gateway_line: int = 0
-    name: str = None
+    name: Optional[str] = None
 
 
 def parsed(template, path):

@@ -136,12 +136,12 @@ class Replacement:
                     self.tell(route, "left out", "no static route of the text gives it, and those of the text are kept")
                 continue
             if route.code == "S" and not in_text:
-                self.tell(route, "added", "no static route of the text gives it; where the text's own are meant, --keep-static keeps them")
+                self.tell(route, "added", "no static route of the text gives it; to use the text's own, give --keep-static")
             if route.interface in self.interfaces and self.interfaces[route.interface].shut:
                 self.tell(route, "added", "its interface is shut in the text, so it is never used")
             text = route_text(route, self.distance(route))
             blocks.append(Block(Line(text, self.table.path, route.line)))
-        self.told.row(0, 0, "added", "%d routes" % len(blocks), "those of %s, as they stand" % self.name)
+        self.told.row(0, 0, "added", "%d routes" % len(blocks), "those of %s, unchanged" % self.name)
         if kept:
             self.told.row(0, 0, "kept", "%d static routes" % kept, "they are in the text and in %s" % self.name)
         return blocks
@@ -160,7 +160,7 @@ class Replacement:
         for name, interface in self.interfaces.items():
             if interface.subnets() and not interface.shut and name not in up:
                 self.told.row(0, 0, "differs", name,
-                              "it is up in the text, and %s has no connected route of it: it is taken as up; shut it down where it isn't" % self.name)
+                              "it is up in the text, and %s has no connected route of it: it is taken as up; write shutdown if it is down" % self.name)
             if interface.shut and name in up:
                 self.told.row(0, 0, "differs", name, "it is shut in the text, and %s has a connected route of it: it is taken as shut" % self.name)
 

@@ -21,9 +21,9 @@ def commands_of(sections):
 
 def without(blocks, left_out):
     """The blocks without those that are left out, whose comments stay."""
-    kept = []
+    kept, gone = [], set(map(id, left_out))
     for block in blocks:
-        if any(block is other for other in left_out):
+        if id(block) in gone:
             kept += [Block(None, block.comments())] if block.comments() else []
         else:
             kept.append(block)

@@ -1,6 +1,7 @@
 """The table of what was done, for each device, on the error output."""
 import sys
 from dataclasses import dataclass, field
+from typing import Optional
 
 
 # What stands behind one of these words is nothing for the logs of a pipeline.
@@ -23,7 +24,7 @@ class Told:
 
     title: str
     rows: list = field(default_factory=list)
-    path: str = None
+    path: Optional[str] = None
 
     def row(self, first, last, what, text, reason):
         """A row for the lines from one number to another; 0 is the whole file."""

@@ -8,8 +8,8 @@ FORWARDING = (["vrf", "forwarding"], ["ip", "vrf", "forwarding"])
 
 def is_definition(block):
     """Whether a block makes a VRF."""
-    words = block.words()
-    return words[:2] in (["vrf", "definition"], ["ip", "vrf"]) and len(words) > 2
+    words = block.words() if block.command() in ("vrf", "ip") else []
+    return words[1:2] in (["definition"], ["vrf"]) and words[:2] in (["vrf", "definition"], ["ip", "vrf"]) and len(words) > 2
 
 
 def definition_name(block):

@@ -23,7 +23,7 @@ KINDS = (
     Kind("loops", "\u21bb", "red", "go round until they expire"),
     Kind("closes", "\u2715", "red", "no longer get through"),
     Kind("opens", "\u25c7", "amber", "get through now"),
-    Kind("sometimes", "\u00bd", "amber", "lose some of their equal ways, or no longer do"),
+    Kind("sometimes", "\u00bd", "amber", "lose some of their equal-cost paths, or no longer do"),
     Kind("translated otherwise", "\u21c4", "blue", "end where they did, with other addresses or ports"),
     Kind("moves", "\u2192", "blue", "end elsewhere"),
     Kind("loop gone", "\u25cb", "grey", "go round no more, and get no further than before"))

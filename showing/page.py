@@ -196,17 +196,20 @@ class Page:
         """The edges with which the change has to do, but for those where nothing changes."""
         return [edge for edge in self.document["edges"] if edge["why"] and edge["kinds"] != []]
 
+    def idle(self) -> list[dict[str, Any]]:
+        """The lines without effect that are to be decided."""
+        return [line for line in self.document["lines"] if line["idle"] and not line["idle"]["backup"] and not line["idle"]["quiet"]]
+
     def marks(self) -> list[Mark]:
         """How many there are of each; zeros are left out."""
         words = ("unexpected", "unexpected") if self.document["expected"] else ("finding", "findings")
         fatal = any(KINDS[finding["kind"]][1] == "red" for finding in self.undecided()) or bool(self.document["expected"])
-        idle = [line for line in self.document["lines"] if line["idle"] and not line["idle"]["backup"]]
         some = (("red", "\u2205", len(self.document["missing"]), "missing", "missing", "missing"),
                 ("red" if fatal else "amber", "!", len(self.undecided()), *words, "unexpected"),
                 ("red", "?", len(self.fails_now()), "question fails now", "questions fail now", "questions"),
                 ("amber", "\u25b2", len(self.document["warnings"]["new"]), "new warning", "new warnings", "warnings"),
-                ("violet", "\u2013", len(idle), "line without effect", "lines without effect", "idle"),
-                ("amber", "\u25cc", len(self.touched_edges()), "edge where nobody looks", "edges where nobody looks", "edges"),
+                ("violet", "\u2013", len(self.idle()), "line without effect", "lines without effect", "idle"),
+                ("amber", "\u25cc", len(self.touched_edges()), "edge that is no ingress", "edges that are no ingress", "edges"),
                 ("plain", "\u2713", len(self.as_expected()), "as expected", "as expected", "expected"),
                 ("plain", "\u25b2", len(self.document["warnings"]["both"]), "standing warning", "standing warnings", "warnings"))
         return [Mark(colour, sign, number, one if number == 1 else several, target)
@@ -277,8 +280,9 @@ class Page:
             "groups": sum(len(finding["groups"]) for finding in document["findings"]),
             "rows": sum(place["rows"] for place in document["ingresses"]),
             "effective": [(line, caused.get(line["number"], [])) for line in lines if line["number"] in anywhere],
-            "idle": [line for line in lines if line["idle"] and not line["idle"]["backup"]],
+            "idle": self.idle(),
             "backups": [line for line in lines if line["idle"] and line["idle"]["backup"]],
+            "quiet_lines": [line for line in lines if line["idle"] and line["idle"]["quiet"]],
             "beside_lines": [line for line in lines if line["beside"] and line["number"] not in anywhere],
             "holding": [line for line in lines if line["holds back"]], "noted": [line for line in lines if line["note"]],
             "matrix_kinds": kinds, "matrix": rows, "more_rows": more_rows, "cards": self.told_one_by_one(),

@@ -24,6 +24,11 @@ from preparing.marks import marks_told
 
 HERE = os.path.dirname(os.path.abspath(__file__))
 TOP = os.path.dirname(HERE)
+# (behind the modules of a sweep, some of which have the names of others there)
+sys.path.append(os.path.join(TOP, "windowing"))
+
+from header_words import Places, questions_of  # type: ignore[import]  # noqa: E402
+
 # What a job reads of these programs.
 SCRIPTS = ("job.py", "gather.py", "failures.py", "plan.py", "texts.py")
 
@@ -71,13 +76,14 @@ def read_file(path):
 
 class Inputs:
     """All that a sweep reads, as bytes: the configurations of each version, the link table, the questions. Configurations are as routers
-    run them, where nothing else is said; `written` tells whether one of them is another text then."""
+    run them, where nothing else is said; `written` tells whether one of them is another text then. Questions have numbers for their words;
+    `worded` tells whether the file has words."""
 
     def __init__(self, read):
         command, *paths = read.words
         names = ("old", "new", "links") if command == "compare" else ("old", "links", "questions")
         self.paths = dict(zip(names, paths))
-        self.folders, self.files, self.written = {}, {}, False
+        self.folders, self.files, self.written, self.worded = {}, {}, False, False
         for name, path in self.paths.items():
             if name in failures.VERSIONS:
                 files = sorted(file for file in os.listdir(path) if file.endswith(".cfg"))
@@ -87,6 +93,10 @@ class Inputs:
                 self.folders[name] = running
             else:
                 self.files[name] = read_file(path)
+        if command == "ask":
+            text = self.files["questions"]
+            self.files["questions"] = questions_of(text, Places([self.paths["old"]]))
+            self.worded = self.files["questions"] != text
 
     def items(self):
         """Each file by its name in the kit."""
@@ -119,7 +129,8 @@ def options_of(read):
 
 def digest_of(read, inputs, found):
     """A number that tells this sweep from any other: its words, its inputs, its programs."""
-    digest = hashlib.sha256(json.dumps([read.words, options_of(read), bool(read.pairs), read.by_ingress, keeps_texts(read)]).encode("ascii"))
+    asked = [read.words, options_of(read), bool(read.pairs), read.by_ingress, keeps_texts(read)]
+    digest = hashlib.sha256(json.dumps(asked).encode("ascii"))
     contents = list(inputs.items()) + [(program.name, read_file(program.file)) for program in found]
     contents += [(script, read_file(os.path.join(HERE, script))) for script in SCRIPTS + ("windows.py",)]
     for name, text in contents:
@@ -190,11 +201,18 @@ def answer(read, found, kit, words):
         others[0].run(["--json", output], os.path.join(kit, "without"))
 
 
-def judge(read, found, kit):
+def judge(read, found, inputs, kit):
     """Runs the command on the networks as they stand: what is refused is told as the program tells it, and nothing else is run. The
     answer is kept in the kit, to compare with. For parts of the ingresses it is enough that all is accepted: a TTL of 1 tells that soon."""
     if read.by_ingress:
         found[0].run(read.words + ["--ttl", "1"], os.path.join(kit, "output"))
+    elif inputs is not None and inputs.worded:
+        numbers = os.path.join(kit, "questions")
+        write_file(numbers, inputs.files["questions"])
+        try:
+            answer(read, found, kit, read.words[:-1] + [numbers])
+        except Stop as stop:
+            raise Stop(stop.status, stop.told.replace(numbers, read.words[-1])) from None
     else:
         answer(read, found, kit, read.words)
 
@@ -204,7 +222,7 @@ def make_kit(read, found, digest, inputs, folder):
     making = os.path.join(folder, "making")
     shutil.rmtree(making, ignore_errors=True)
     os.makedirs(making)
-    judge(read, found, making)
+    judge(read, found, inputs, making)
     again = read_inputs(read)
     if inputs is None or again is None or dict(again.items()) != dict(inputs.items()):
         raise Stop(4, "sweep: files changed while they were read\n")
@@ -286,6 +304,9 @@ def show(read, folder, plan):
         shutil.rmtree(target, ignore_errors=True)
         failures.write_failed(plan.path(version), target, changes[version])
         paths[version] = target
+    if plan.command == "ask" and read_file(plan.path("questions")) != read_file(read.words[3]):
+        # (the command takes numbers alone)
+        paths["questions"] = plan.path("questions")
     program = os.path.abspath(programs.named("review") or os.path.join(TOP, "review"))
     words = [program, plan.command] + list(paths.values()) + (["--ttl", read.ttl] if read.ttl else [])
     sys.stdout.buffer.write(os.fsencode(" ".join(map(shlex.quote, words)) + "\n"))
@@ -336,7 +357,7 @@ def main():
         sys.stderr.write("sweep: %s\n" % missing)
         return 70
     except KeyboardInterrupt:
-        sys.stderr.write("sweep: interrupted; the same words go on from here\n")
+        sys.stderr.write("sweep: interrupted; the same command continues from here\n")
         return 130
     except OSError as error:
         sys.stderr.write("sweep: %s\n" % error)

@@ -73,9 +73,10 @@ class Window:
         """How many failures answer as the network without failure, from the first on; None where `rollout` gives no answer."""
         with open(os.path.join(self.folder, "steps"), "w", encoding="ascii") as stream:
             stream.writelines("change %d\n" % step for step in range(1, self.steps + 1))
-        words = [plan.path("launch"), "--run", plan.path("rollout"), "rollout", plan.path("old"), plan.path("links"), plan.path("questions")]
+        words = [plan.path("launch"), "--run", plan.path("rollout"), "rollout", *map(plan.path, ("old", "links", "questions"))]
         # A path of a step has no blank in it.
-        done = subprocess.run(words + ["steps"], cwd=self.folder, stdin=subprocess.DEVNULL, stdout=subprocess.PIPE, stderr=subprocess.DEVNULL)
+        nothing = subprocess.DEVNULL
+        done = subprocess.run(words + ["steps"], cwd=self.folder, stdin=nothing, stdout=subprocess.PIPE, stderr=nothing)
         networks, *answer = [line.split() for line in done.stdout.decode("latin-1").splitlines()] or [[]]
         if networks != ["networks", str(self.steps + 1)] or len(answer) != 1:
             return None

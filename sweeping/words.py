@@ -7,16 +7,16 @@ USAGE = """usage:
   ask NET LINKS QUESTIONS [OPTION ...]
 options:
   --pairs            each two failures on one day, too
-  --show NAME        make the networks of one failure and print the command that asks of them
+  --show NAME        make the networks of one failure and print the command that asks them
   --by-ingress N     no failure: one report, from N parts of the ingresses (compare)
-  --folder FOLDER    where the jobs and their results stand, and stay
-  --jobs N           so many jobs at a time on each machine
-  --sshlogin LOGIN   run jobs on this machine, as GNU parallel says; once for each machine
-  --copy             copy what the jobs read to these machines, which don't see FOLDER
-  --slurm            one array job by sbatch, and a job that gathers behind it
-  --jobs-only        a job for each failure, also where rollout tells of many at once (ask)
-  --as-written       defaults by next hop alone and subinterfaces as the texts have them
-  --workers N, --ttl T    of each run, as for review
+  --folder FOLDER    where inputs, job log and results are kept
+  --jobs N           at most N jobs at a time on each machine
+  --sshlogin LOGIN   run jobs on this machine, as GNU parallel reads it; once for each machine
+  --copy             copy what the jobs read to these machines, if they don't see FOLDER
+  --slurm            one array job by sbatch, and a second job that gathers
+  --jobs-only        one job for each failure, although rollout could answer many at once (ask)
+  --as-written       read default routes by next hop alone and subinterfaces as they are written
+  --workers N, --ttl T    for each run, as for review
 """
 
 

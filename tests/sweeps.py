@@ -139,6 +139,28 @@ class ByParallel(Sweeps):
         self.assertEqual((done.returncode, done.stdout.splitlines()[-1]), (1, b"affected 15"))
         self.assertEqual(self.sweep("--show", "device NONE", *COMPARE)[0], 2)
 
+    def worded(self, text=None):
+        """The words of the example's sweep, whose questions have words for numbers."""
+        text = text or read(os.path.join(TOP, EXAMPLE, "questions")).decode("latin-1")
+        text = text.replace("proto 6 dport 443", "proto tcp dport https")
+        return ask_words("new")[:3] + [write(os.path.join(self.scratch, "questions"), text)]
+
+    def test_questions_in_words(self):
+        words = self.worded()
+        self.assertIn("proto tcp dport https", read(words[3]).decode())
+        self.has_answer(EXAMPLE + "/failures-new", *words)
+        self.has_answer(EXAMPLE + "/failures-new", *words, "--jobs-only")
+
+    def test_questions_in_words_that_are_shown(self):
+        status, command, errors = self.sweep("--show", UPLINK, *self.worded(), "--folder", self.folder)
+        self.assertEqual(status, 0, errors)
+        done = subprocess.run(shlex.split(command.decode()), cwd=TOP, stdout=subprocess.PIPE)
+        self.assertEqual((done.returncode, done.stdout.splitlines()[-1][:7]), (1, b"failed "))
+
+    def test_word_of_a_question_that_nobody_knows(self):
+        words = self.worded("! a comment\nreach BRANCH Vlan40 to DC1 Vlan30 proto tcp dport httpx\n")
+        self.assertEqual(self.sweep(*words), (3, b"", b"refused %s line 2 BadWord httpx\n" % words[3].encode()))
+
     def test_parts_of_the_ingresses(self):
         links = "examples/campus/links"
         for parts in "1", "3", "9":

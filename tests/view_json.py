@@ -4,7 +4,7 @@
 usage: view_json.py [COUNT] [SEED]      by default 300 reports
 
 Each report is read here by its lines, apart from the program. Its names have quotes, backslashes, tags and bytes that are no ASCII. The groups
-of each ingress have to stand for exactly its rows, each with its kind by the rules of windowing/kinds.py; the summary is counted again, and the
+of each ingress have to stand for exactly its rows, each with its kind by the rules of tests/kind_rules.py; the summary is counted again, and the
 text that `view` writes for a terminal is put together of the document. Where python3-jsonschema is installed, each document is validated by
 docs/report-schema.json. The pages of some reports have the elements of the same report with plain names. DIQENYU_VIEW names another program
 than that of the launcher. The last line is 'N passed, M failed'.
@@ -27,6 +27,7 @@ TOP = pathlib.Path(__file__).resolve().parent.parent
 sys.dont_write_bytecode = True
 sys.path[:0] = [str(TOP / 'windowing'), str(TOP / 'tests')]
 
+import kind_rules  # noqa: E402
 import kinds  # noqa: E402
 from window_page import Reader, rendering  # noqa: E402
 
@@ -176,7 +177,7 @@ def label_text(outcomes):
 def kind_of(group):
     """What the change does to a group's packets, by the rules of the window's findings, without lans."""
     sides = [kinds.side_of(tuple(map(outcome_text, group[side]))) for side in ('old', 'new')]
-    return kinds.kind_of(*sides, {})
+    return kind_rules.kind_of(*sides, {})
 
 
 def row_key(fields, group):

@@ -3,7 +3,9 @@
 
 The doctor's warnings are those of a stand-in where a case is about what `window` does with them.
 """
+import json
 import os
+import re
 import shutil
 import signal
 import subprocess
@@ -20,8 +22,8 @@ EDGE_DOWN = ["examples/campus-edge-down/old", "examples/campus-edge-down/new", "
 USAGE = b"usage:\n  window OLD NEW [LINKS] [OPTION ...]\n"
 
 CAMPUS_TOLD = """Server subnet
-To be decided: packets change (opens 3); packets change where nobody looks: loops, opens at ACC2 Vlan11 and 2 more.
-3 findings, 3 edges where nobody looks
+To be decided: packets change (opens 3); packets change at edges that are no ingress: loops, opens at ACC2 Vlan11 and 2 more.
+3 findings, 3 edges that are no ingress
 packets: something changes at 2 of 4 ingresses, 30 rows; 4 of 9 edges are ingresses
 1 opens: gets through now, at 2 ingresses: ACC1 Vlan11, BRANCH Vlan40
     from their sources to 10.30.20.0/24 (but 10.30.20.1, 10.30.20.255): tcp 443 (https)
@@ -78,8 +80,15 @@ class Windows(unittest.TestCase):
         self.environment["DIQENYU_" + name.upper()] = write(os.path.join(self.scratch, "programs", name), "#!/bin/bash\n" + script, 0o755)
 
     def doctor_says(self, warnings, limits=()):
-        """The stand-in for the doctor has these warnings, and tells these limits of the model besides."""
-        said = write(os.path.join(self.scratch, "said"), "".join(line + "\n" for line in [*warnings, *limits]) + "warnings %d\n" % len(warnings))
+        """The stand-in for the doctor writes a document with these warnings, and with these limits of the model, each at `links:1`."""
+        def warning(line):
+            found = re.fullmatch(r"(.*?):(\d+): (.*)", line)
+            return {"file": found[1], "line": int(found[2]), "kind": "place", "says": found[3]} if found else {
+                "file": "links", "kind": "place", "says": line}
+
+        document = {"schema": "diqenyu-doctor", "version": 1, "warnings": [warning(line) for line in warnings], "lines": [],
+                    "limits": [{"file": "links", "line": 1, "words": words, "kind": "ethernet", "says": "as it is"} for words in limits]}
+        said = write(os.path.join(self.scratch, "said"), json.dumps(document))
         self.stand_in("doctor", "cat %s; exit %d\n" % (said, bool(warnings)))
 
     def window(self, *words):
@@ -133,8 +142,7 @@ class Windows(unittest.TestCase):
         self.assertIn("standing warnings: 7, as in the old network; all by --json", output.splitlines())
 
     def test_limits(self):
-        limit = "limit: p2p on Ethernet (2), first links:1: a packet goes to and fro"
-        self.doctor_says(["links:3: R9 isn't there"], [limit])
+        self.doctor_says(["links:3: R9 isn't there"], ["p2p on Ethernet", "p2p on Ethernet"])
         status, output, errors = self.window(CAMPUS[0], CAMPUS[0], CAMPUS[2])
         self.assertEqual((output.splitlines()[1:3], status), (["To be decided: a standing warning.", "1 standing warning"], 1), errors)
         self.assertNotIn("p2p on Ethernet", output)
@@ -148,9 +156,9 @@ class Windows(unittest.TestCase):
         status, output, errors = self.window(os.path.join(self.scratch, "old"), os.path.join(self.scratch, "new"), links)
         self.assertEqual(status, 1, errors)
         self.assertEqual(output.splitlines()[1:7], [
-            "To be decided: packets change (opens 1); packets change where nobody looks: opens at R1 Serial0.",
+            "To be decided: packets change (opens 1); packets change at edges that are no ingress: opens at R1 Serial0.",
             "All of it comes of R1.cfg:14 + ip route 10.9.0.0 255.255.0.0 Serial0. Without it packets don't change.",
-            "1 finding, 1 edge where nobody looks",
+            "1 finding, 1 edge that is no ingress",
             "packets: something changes at 5 of 5 ingresses, 5 rows; 5 of 6 edges are ingresses",
             "1 opens: gets through now, at 5 ingresses: R1 Ethernet1, R1 Ethernet2, R1 Ethernet3 and 2 more",
             "    from their sources to 10.9.0.0/16: any"])
@@ -173,8 +181,8 @@ class Windows(unittest.TestCase):
 
     def test_refused(self):
         write(os.path.join(self.scratch, "new", "R1.cfg"), "hostname R1\nrouter ospf 1\n")
-        told = ["%s/new/R1.cfg:2: refused NotCovered router" % self.scratch, "limit: router ospf (1)"]
-        self.doctor_says(told[:1], told[1:])
+        told = ["%s/new/R1.cfg:2: refused NotCovered router" % self.scratch, "limit: router ospf (1), first links:1: as it is"]
+        self.doctor_says(told[:1], ["router ospf"])
         status, output, errors = self.window(CAMPUS[0], self.scratch + "/new", CAMPUS[2], "--page", self.page)
         self.assertEqual((status, output), (3, ""))
         self.assertEqual(errors.splitlines()[-3:], told + ["refused %s/new/R1.cfg line 2 NotCovered router" % self.scratch])
@@ -203,7 +211,7 @@ class Windows(unittest.TestCase):
         self.assertTrue(output.encode().startswith(USAGE))
         status, output, errors = self.window("--version")
         self.assertEqual((status, errors), (0, ""))
-        self.assertEqual(output, "window of Diqenyu %s, schema 1\n" % open(os.path.join(TOP, "VERSION")).readline().strip())
+        self.assertEqual(output, "window of Diqenyu %s, schema 1\n" % read(os.path.join(TOP, "VERSION")).strip())
 
     def test_interrupted(self):
         begun = os.path.join(self.scratch, "begun")

@@ -14,6 +14,7 @@ import subprocess
 import sys
 import tempfile
 import unittest
+from types import SimpleNamespace
 from xml.etree import ElementTree
 
 TOP = os.path.dirname(os.path.dirname(os.path.abspath(__file__)))
@@ -23,14 +24,20 @@ sys.path[:0] = [os.path.join(TOP, "tests"), os.path.join(TOP, "windowing")]
 import cubes  # noqa: E402
 import field_words  # noqa: E402
 import findings  # noqa: E402
+import kinds  # noqa: E402
 import rules  # noqa: E402
-from cubes import FIELDS, WIDTHS, Box, Headers, Values  # noqa: E402
+from comparing import Found  # noqa: E402
+from cubes import FIELDS, WIDTHS, Box, Headers, Values, union  # noqa: E402
+from document_kinds import DocumentKinds  # noqa: E402
 from documents import document_of, json_of, sarif_of  # noqa: E402
 from edges import edges_of  # noqa: E402
-from kinds import KINDS, kind_of, outcome_of, side_of  # noqa: E402
+from jobs import Refused  # noqa: E402
+from kind_rules import kind_of  # noqa: E402
+from kinds import KINDS, outcome_of, side_of  # noqa: E402
 from model import Cause, Finding, Idle, Line, Part, Result  # noqa: E402
 from networks import network_of  # noqa: E402
 from parts import Lans  # noqa: E402
+from rest import rest_of  # noqa: E402
 from telling import lines_of  # noqa: E402
 from verdict import fewest_lines, verdict_of  # noqa: E402
 
@@ -168,6 +175,31 @@ class Kinds(unittest.TestCase):
             found = kind_of(side_of(outcomes(old), frozenset(outcomes(before))), side_of(outcomes(new), frozenset(outcomes(after))), LANS)
             self.assertEqual(found, wanted, (old, new, before, after))
         self.assertEqual({case[4] for case in CASES}, set(KINDS))
+
+    def told(self, cases):
+        """The kinds that a window gives, by those of the document: of old and new outcomes and those that nobody answers."""
+        def in_order(text):
+            """The outcomes as a report has them."""
+            return " | ".join(sorted(outcomes(text), key=lambda one: (("drop", "expired", "local", "exit").index(one.split()[0]), one)))
+
+        with tempfile.TemporaryDirectory(prefix="diqenyu-test-") as folder:
+            known = DocumentKinds(folder).of((in_order(old), in_order(new)) for old, new, *_ in cases)
+        return [kinds.kind_of(known[in_order(old), in_order(new)], side_of(outcomes(old), frozenset(outcomes(before))),
+                              side_of(outcomes(new), frozenset(outcomes(after))), LANS)
+                for old, new, before, after, *_ in cases]
+
+    def test_of_the_document(self):
+        self.assertEqual(self.told(CASES), [case[4] for case in CASES])
+
+    def test_of_the_document_of_every_pair(self):
+        """Those of a window are those of the rules, whatever nobody answers."""
+        ends = ["drop", "expired", A, B, C, "local R1 E1"]
+        texts = [" | ".join(end for at, end in enumerate(ends) if some >> at & 1) for some in range(1, 1 << len(ends))]
+        cases = [(old, new, before, after) for old in texts for new in texts if old != new
+                 for before, after in (("", ""), (A if A in old else "", B if B in new else ""))]
+        wanted = [kind_of(side_of(outcomes(old), frozenset(outcomes(before))), side_of(outcomes(new), frozenset(outcomes(after))), LANS)
+                  for old, new, before, after in cases]
+        self.assertEqual(self.told(cases), wanted)
 
     def test_every_pair_has_a_kind(self):
         """Each pair of lists of outcomes that differ: what an engineer fears is never called by a kind that says less."""
@@ -437,7 +469,7 @@ class FirstLines(Windows):
                              "10.2.0.1 255.255.255.0\n ip access-group 150 in\n") + "access-list 150 deny ip any any\n"
         route = R1 + DEFAULT + "10.0.0.2\n"
         text, _ = self.first([route, R2], [route, blocked], links)
-        self.assertIn("packets change where nobody looks: closes at R2 Ethernet1", text)
+        self.assertIn("packets change at edges that are no ingress: closes at R2 Ethernet1", text)
         self.assertIn("1 of 2 edges are ingresses", text)
         self.assertIn("edge: R2 Ethernet1 (10.2.0.1/24) is no ingress, on a device that the change touches; "
                       "packets that come in there: closes", text)
@@ -534,9 +566,9 @@ class Decisions(Windows):
         told = {place_of(edge): edge["kinds"] for edge in before["edges"] if edge["why"]}
         self.assertEqual(set(told), {"ACC2 Vlan11", "DC1 GigabitEthernet0/2", "DC1 GigabitEthernet0/3"})
         # what is looked at there is what the comparison has there
-        for place, kinds in told.items():
+        for place, some in told.items():
             found = {one["kind"] for one in document["findings"] if one["plausible"] and place in map(place_of, one["ingresses"])}
-            self.assertEqual(set(kinds), found, place)
+            self.assertEqual(set(some), found, place)
 
     def test_statuses(self):
         words = self.networks([R1 + DEFAULT + "10.0.0.2\n", R2], [R1, R2])
@@ -599,8 +631,38 @@ class Verdicts(unittest.TestCase):
         lines = [Line(0, "R1.cfg:7", "+", "shutdown", "", "shut", "R1"),
                  Line(1, "R1.cfg:9", "-", "ip route 10.0.0.0 255.0.0.0 Null0", "", "route", "R1")]
         result = Result("A", "old", "new", ("links",), {"R1 E0": 1}, {}, findings=found, lines=lines)
-        self.assertEqual(verdict_of(result)[1:],
-                         ["All of it comes of R1.cfg:7 + shutdown. Without it the change still does the rest: opens 1."])
+        self.assertEqual(verdict_of(result)[1:], ["All of it comes of R1.cfg:7 + shutdown."])
+        result.rest = "packets don't change"
+        self.assertEqual(verdict_of(result)[1:], ["All of it comes of R1.cfg:7 + shutdown. Without it packets don't change."])
+
+    def test_rest(self):
+        """What the change does without a line: as a comparison says, beside what it does with it."""
+        sources = {"R1 E0": Values.of_text("10.1.0.0/24", 32)}
+
+        def kinds_of(pairs):
+            return {pair: kind_of(*(side_of(outcomes(text)) for text in pair), {}) for pair in pairs}
+
+        lans = SimpleNamespace(strangers=lambda outcome, side: Headers.none(), names={})
+
+        def found(*rows):
+            places = {}
+            for source, port, old, new in rows:
+                box = Box.of_texts(("10.9.0.0/16", source, "6", port, "*", "*"))
+                places.setdefault("R1 E0", {}).setdefault((old, new), []).append(Headers.of_box(box))
+            return Found(len(rows), {place: {ends: union(some) for ends, some in alike.items()} for place, alike in places.items()})
+
+        here, exit_ = "10.1.0.0/24", "exit R9 E1"
+        report = found((here, "80", "drop", exit_), (here, "443", exit_, "drop"), ("10.7.0.0/16", "25", "drop", exit_))
+        for rows, wanted in (
+                ((), "packets don't change"),
+                ((("10.7.0.0/16", "25", "drop", exit_),), "packets don't change but for packets whose source can't be where they come in"),
+                (((here, "80", "drop", exit_),), "the change still does the rest: opens 1"),
+                (((here, "22", "drop", exit_),), "it does something else instead: opens 1"),
+                (((here, "443", exit_, "expired"),), "it does something else instead: loops 1"),
+                (((here, "80", "drop", exit_), (here, "443", exit_, "drop"), (here, "22", "drop", exit_)),
+                 "the change still does the rest: closes 1, opens 1, and something else instead: opens 1")):
+            self.assertEqual(rest_of(found(*rows), report, sources, lans, kinds_of), wanted)
+        self.assertEqual(rest_of(Refused("refused x line 1 BadWord y"), report, sources, lans, kinds_of), "the new network is refused")
 
 
 class Telling(unittest.TestCase):
@@ -632,7 +694,7 @@ class Telling(unittest.TestCase):
                           ("R3 E0", web, Cause("by", (0, 1))))
         self.assertEqual(lines[1:], [
             "To be decided: packets change (closes 2); 1 line without effect.",
-            "All of it comes of R1.cfg:7 + line 0. Without it packets don't change.", "2 findings, 1 line without effect",
+            "All of it comes of R1.cfg:7 + line 0.", "2 findings, 1 line without effect",
             "packets: something changes at 3 of 3 ingresses, 3 rows",
             "1 closes: no longer gets through, at 2 ingresses: R1 E0, R2 E0", "    from their sources to 10.9.0.0/16: any",
             "    exit R9 E1 -> drop",

@@ -2,7 +2,8 @@
 """Tries what the window says of each changed line: small changes of a small network one by one, with what each line does and why by hand, and
 the laws on random changes of random networks, where tests/rules.py says of single headers what they depend on.
 
-DIQENYU_REVIEW, DIQENYU_DOCTOR and DIQENYU_ROLLOUT name other programs than those of the launchers; WINDOW_LAWS says how many random networks.
+DIQENYU_REVIEW, DIQENYU_VIEW, DIQENYU_DOCTOR and DIQENYU_ROLLOUT name other programs than those of the launchers; WINDOW_LAWS says how many
+random networks, WINDOW_LAWS_FROM the first one's seed (1).
 """
 import itertools
 import json
@@ -23,22 +24,24 @@ sys.path[:0] = [os.path.join(TOP, "tests"), os.path.join(TOP, "windowing")]
 
 import hunks  # noqa: E402
 import jobs  # noqa: E402
+import kind_rules  # noqa: E402
 import kinds  # noqa: E402
 import rendering  # noqa: E402
 import rules  # noqa: E402
 from causes import Cause, Causes, Unfaithful, header_of, parts_of  # noqa: E402
 from comparing import found_in  # noqa: E402
-from cubes import union  # noqa: E402
+from cubes import Headers, union  # noqa: E402
 from lines import OwnPlaces, find_causes  # noqa: E402
 from programs import command_of  # noqa: E402
 
 
 def kind_of(old, new):
     """The kind of outcomes as the report writes them; which interfaces lie on one lan isn't asked."""
-    return kinds.kind_of(*(kinds.side_of(tuple(text.split(" | "))) for text in (old, new)), {})
+    return kind_rules.kind_of(*(kinds.side_of(tuple(text.split(" | "))) for text in (old, new)), {})
 
 
 LAWS = int(os.environ.get("WINDOW_LAWS", "200"))
+FIRST_LAW = int(os.environ.get("WINDOW_LAWS_FROM", "1"))
 
 NET = {
     "R1": """hostname R1
@@ -406,7 +409,10 @@ class Prepared(Scratch):
     def test_places(self):
         class Places:
             def place(self, path, line):
-                return SimpleNamespace(entry=15) if line == 9 else None
+                return SimpleNamespace(path="own-R1.cfg", line=109, entry=15) if line == 9 else None
+
+            def written(self, path, line):
+                return " permit tcp any any eq 443"
 
             def shown(self, path, line):
                 return "own-%s:%d" % (os.path.basename(path), 100 + line)
@@ -422,8 +428,8 @@ class Laws(Scratch):
     """The laws, on random changes of random networks."""
 
     def test_laws(self):
-        count = dict.fromkeys(("networks", "lines", "one", "by", "any", "all"), 0)
-        for seed in range(1, LAWS + 1):
+        count = dict.fromkeys(("networks", "lines", "one", "by", "any", "all", "rest"), 0)
+        for seed in range(FIRST_LAW, FIRST_LAW + LAWS):
             subprocess.run([sys.executable, "tests/random_networks.py", self.scratch, str(seed)], cwd=TOP, check=True)
             tables = [self.path("links")] + ([self.path("newlinks")] if seed % 3 == 0 else [])
             causes, report = self.causes(tables)
@@ -444,10 +450,14 @@ class Laws(Scratch):
                     count[cause.how] += 1
                 for part, cause in answered[:3]:
                     self.check_header(causes, part, cause)
+                for line in {cause.lines[0] for _, cause in answered[:2]}:
+                    self.check_rest(causes, report, line)
+                    count["rest"] += 1
         self.assertGreater(count["networks"], LAWS * 0.8)
         self.assertGreater(count["one"], LAWS * 0.05)
         self.assertGreater(count["by"], LAWS)
         self.assertGreater(count["any"], LAWS * 0.02)
+        self.assertGreater(count["rest"], LAWS * 0.5)
 
     def check_parts(self, parts, answered):
         """The cut parts are disjoint and together the parts."""
@@ -459,6 +469,27 @@ class Laws(Scratch):
             self.assertEqual(union(mine), part.headers)
             self.assertEqual(sum(headers.size() for headers in mine), part.headers.size())
         self.assertEqual(pieces, {})
+
+    def check_rest(self, causes, report, line):
+        """What the change does without a line: what it does with it, but where the line does something; there the old outcome is that of the
+        report, or the new one where the report has no row, and the new outcome is the one without the line."""
+        wanted = {}
+
+        def put(ingress, old, new, headers):
+            if headers and old != new:
+                alike = wanted.setdefault(ingress, {})
+                alike[old, new] = alike.get((old, new), Headers.none()) | headers
+
+        by = causes.search.effects[line].by
+        for ingress, places in report.places.items():
+            for (old, new), headers in places.items():
+                put(ingress, old, new, headers - by.at(ingress))
+        for ingress, places in by.places.items():
+            for (without, new), headers in places.items():
+                for (old, _), some in report.places.get(ingress, {}).items():
+                    put(ingress, old, without, headers & some)
+                put(ingress, new, without, headers - report.at(ingress))
+        self.assertEqual(causes.without([line]).places, wanted)
 
     def check_header(self, causes, part, cause):
         """What the rules say of one header of a part, in the networks without lines and with lines alone."""
@@ -545,7 +576,7 @@ class Runs(Scratch):
 
     def window(self, *words):
         done = subprocess.run(["./window", self.path("old"), self.path("new"), *words], cwd=TOP, stdin=subprocess.DEVNULL, stdout=subprocess.PIPE,
-                              stderr=subprocess.PIPE, check=False, env=dict(os.environ, DIQENYU_VIEW=self.write("view", "#!/bin/sh\n", 0o755)))
+                              stderr=subprocess.PIPE, check=False)
         return done.returncode, done.stdout.decode(), done.stderr.decode()
 
     def test_job_that_dies(self):
@@ -564,8 +595,7 @@ class Runs(Scratch):
         for wanted in (False, True):
             mine, theirs = os.openpty()
             running = subprocess.Popen(["./window", self.path("old"), self.path("new"), *tables], cwd=TOP, stdin=subprocess.DEVNULL,
-                                       stdout=subprocess.DEVNULL, stderr=theirs if wanted else subprocess.PIPE,
-                                       env=dict(os.environ, DIQENYU_VIEW=self.write("view", "#!/bin/sh\n", 0o755)))
+                                       stdout=subprocess.DEVNULL, stderr=theirs if wanted else subprocess.PIPE)
             errors = running.communicate()[1]
             os.close(theirs)
             if wanted:
@@ -583,7 +613,7 @@ class Runs(Scratch):
                           % (begun, " ".join(command_of("review"))))
         running = subprocess.Popen(["./window", self.path("old"), self.path("new"), *tables], cwd=TOP, stdin=subprocess.DEVNULL,
                                    stdout=subprocess.PIPE, stderr=subprocess.PIPE,
-                                   env=dict(os.environ, TMPDIR=temporary, DIQENYU_VIEW=self.write("view", "#!/bin/sh\n", 0o755)))
+                                   env=dict(os.environ, TMPDIR=temporary))
         end = time.monotonic() + 60
         while not os.path.exists(begun) and time.monotonic() < end:
             time.sleep(0.05)
@@ -601,6 +631,17 @@ class Runs(Scratch):
         self.assertEqual((status, errors), (1, ""))
         self.assertIn("\nwithout effect: R1.cfg:12 + 50 permit tcp any any eq 25 [list IN]\n"
                       "    `permit tcp any any eq 25` decides no packet, behind `deny ip any any` (R1.cfg:11)\n", told)
+
+    def test_rest_of_the_verdict(self):
+        """Without the line that closes, what another one opens at both ingresses stays, and what the line holds back opens too: names and shells."""
+        tables = self.write_networks([("R2", " ip access-group SERVERS out\n", ""),
+                                      ("R1", " 10 permit", " 5 deny ip any host 10.2.0.9\n 10 permit")])
+        with open(self.path("expect"), "w", encoding="utf-8") as stream:
+            stream.write("may opens any\n")
+        status, told, errors = self.window(*tables, "--expect", self.path("expect"))
+        self.assertEqual((status, errors), (1, ""))
+        self.assertIn("\nAll of it comes of R1.cfg:8 + 5 deny ip any host 10.2.0.9 [list IN]. Without it the change still does the rest: opens 2, "
+                      "and something else instead: opens 1.\n", told)
 
     def test_folders_that_are_equal(self):
         tables = self.write_networks([])

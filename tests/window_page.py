@@ -8,6 +8,7 @@ from __future__ import annotations
 
 import copy
 import hashlib
+import itertools
 import json
 import os
 import re
@@ -66,9 +67,14 @@ def question(before: bool | None, after: bool | None) -> dict[str, object]:
             "packets": {"before": None, "after": "a packet" if after is False else None}}
 
 
+def idle(reason: str, backup: bool = False, quiet: bool = False) -> dict[str, object]:
+    """Why a line has no effect."""
+    return {"reason": reason, "backup": backup, "quiet": quiet}
+
+
 def everything() -> dict[str, object]:
     """A document that has something of each. What it counts: 1 missing, 3 unexpected, 2 questions that fail now, 3 new warnings, 2 lines
-    without effect, 1 edge where nobody looks, 1 as expected, 2 standing warnings."""
+    without effect, 1 edge that is no ingress, 1 as expected, 2 standing warnings."""
     by = {"how": "by", "lines": [0, 1]}
     return {
         "schema": "diqenyu-window", "version": 1, "title": "a title", "status": 9, "told": ["waived: this"], "prepared": ["prepared: that"],
@@ -89,9 +95,9 @@ def everything() -> dict[str, object]:
         "edges known": 4,
         "questions": [question(True, False), question(None, False), question(False, False), question(False, True), question(True, True),
                       question(True, None)],
-        "lines": [line(0), line(1, note="be careful"), line(2, idle={"reason": "the same", "backup": False}),
-                  line(3, idle={"reason": "shut", "backup": False}), line(4, idle={"reason": "stands by", "backup": True}),
-                  line(5, **{"holds back": True}), line(6, beside="others do it")],
+        "lines": [line(0), line(1, note="be careful"), line(2, idle=idle("the same")), line(3, idle=idle("shut")),
+                  line(4, idle=idle("stands by", backup=True)), line(5, **{"holds back": True}), line(6, beside="others do it"),
+                  line(7, idle=idle("a description", quiet=True))],
         "lines untold": "no reason"}
 
 
@@ -261,7 +267,7 @@ class Whole(unittest.TestCase):
         words = re.search(r"Not as expected: this\..*?What changes", self.reader.text())
         assert words
         self.assertIn("\u2205 1 missing! 3 unexpected? 2 questions fail now\u25b2 3 new warnings\u2013 2 lines without effect"
-                      "\u25cc 1 edge where nobody looks"
+                      "\u25cc 1 edge that is no ingress"
                       "\u2713 1 as expected\u25b2 2 standing warnings", words[0])
         self.assertEqual(self.chips(), [
             ("chip red", "#missing"), ("chip red", "#unexpected"), ("chip red", "#questions"), ("chip amber", "#warnings"),
@@ -306,14 +312,30 @@ class Whole(unittest.TestCase):
 
     def test_lines(self) -> None:
         text = self.reader.text()
-        self.assertIn("7 lines, 2 without effect", text)
+        self.assertIn("8 lines, 2 without effect", text)
         self.assertIn("Without effect 2", text)
         self.assertIn("With effect 3", text)
         self.assertIn("D0.cfg:7 + a linein the place of another linewith D3.cfg:82 3 4", text)
         for told in ("the same", "shut", "Backups: without effect while nothing fails 1", "stands by",
+                     "Say nothing of packets 1", "a description",
                      "Take no part: others do their part already 1", "Hold back what the other lines would change 1", "be careful",
-                     "foreign sources alone", "can\u2019t be told: no reason"):
+                     "foreign sources alone", "isn\u2019t known: no reason"):
             self.assertIn(told, text)
+
+    def links_of(self, tag: str, number: str) -> set[str]:
+        """Where the links lead that stand in the element of this number, as far as the next one of its tag."""
+        elements = self.reader.elements
+        first = next(at for at, (_, attributes) in enumerate(elements) if attributes.get("id") == number)
+        behind = itertools.takewhile(lambda one: one[0] != tag, elements[first + 1:])
+        return {attributes["href"] for name, attributes in behind if name == "a"}
+
+    def test_each_way_round(self) -> None:
+        """A finding leads to its lines and a line to its findings, without a script."""
+        for finding, lines in (("f2", {"#l0", "#l1"}), ("f3", {"#l0", "#l1"}), ("f4", {"#l0", "#l1"}), ("f5", set()), ("f6", {"#l5"})):
+            self.assertEqual({one for one in self.links_of("details", finding) if one.startswith("#l")}, lines, finding)
+        three = {"#f2-why", "#f3-why", "#f4-why"}
+        for number, findings in (("l0", three), ("l1", three), ("l2", set()), ("l7", set())):
+            self.assertEqual(self.links_of("tr", number), findings, number)
 
     def test_the_rest(self) -> None:
         text = self.reader.text()

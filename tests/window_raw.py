@@ -2,6 +2,7 @@
 """Runs `window` on folders as devices show them, and tries what it is made of. DIQENYU_REVIEW, DIQENYU_VIEW and DIQENYU_DOCTOR name
 other programs than those of the launchers."""
 import os
+import re
 import shutil
 import subprocess
 import sys
@@ -164,7 +165,7 @@ class Folders(Runs):
     def test_raw(self):
         status, output, errors = self.window("old", "new", "links")
         self.assertEqual((status, errors), (1, []))
-        self.assertEqual([line for line in output if line.startswith(("packets", "1 "))][:2], CHANGED)
+        self.assertEqual([line for line in output if line.startswith(("packets", "1 opens"))], CHANGED)
         # 2 prompts, 2 lines of IPv6, 3 lines of the group, 3 or 4 entries, 1 setting of lists, 1 default
         self.assertEqual(output[-1], "prepared: 25 lines of 2 files; --keep FOLDER keeps the texts and the table")
 
@@ -200,6 +201,56 @@ class Folders(Runs):
         _, output, errors = self.window("old", "new", "links")
         self.assertEqual([line for line in self.warnings(output) if "mask" in line][0][:28], "new/R1.cfg:26: entry 40 of t", errors)
 
+    def lines_told(self, text):
+        """What is told of changed lines, where R1 becomes this text."""
+        self.write("new/R1.cfg", text)
+        _, output, errors = self.window("old", "new", "links")
+        self.assertEqual(errors, [])
+        lines = [line[len("    by "):] for line in output if line.startswith("    by ")]
+        told = [at for at, line in enumerate(output) if line.startswith(("without", "says nothing"))]
+        return lines + [line for at in told for line in output[at:at + 1 + output[at].startswith("without")]]
+
+    def test_lines_with_groups(self):
+        """A line with groups is one line, in its own words; where only a group has grown, in those that are new."""
+        self.assertEqual(self.lines_told(WIDER), ["R1.cfg:25 + 30 permit udp any object-group SERVERS eq ripv6 [list USERS]"])
+        self.assertEqual(self.lines_told(R1.replace(" host 10.0.2.6\n", " host 10.0.2.6\n host 10.0.2.7\n host 10.0.2.9\n")),
+                         ["R1.cfg:25 + 10 permit tcp any host 10.0.2.7 eq 135 and 1 more [list USERS]"])
+        self.assertEqual(self.lines_told(R1.replace("eq msrpc", "eq smtp")), [
+            "R1.cfg:23 + 10 permit tcp any object-group SERVERS eq smtp [list USERS]", "R1.cfg:23"])
+        self.assertEqual(self.lines_told(R1.replace(" permit icmp any any traceroute\n", " permit udp any any neq 53 67\n")), [
+            "R1.cfg:24 - 20 permit icmp any any traceroute [list USERS]", "R1.cfg:24 + 20 permit udp any any neq 53 67 [list USERS]"])
+        self.assertEqual(self.lines_told(R1.replace(" deny ", " permit tcp any object-group SERVERS eq 135\n remark the end\n deny ")), [
+            "without effect: R1.cfg:25 + 30 permit tcp any object-group SERVERS eq 135 [list USERS]",
+            "    `permit tcp any object-group SERVERS eq 135` decides no packet, behind `permit tcp any object-group SERVERS eq msrpc` (R1.cfg:23)",
+            "says nothing of packets: R1.cfg:26 + remark the end [list USERS]"])
+
+    def test_entry_of_another_device(self):
+        """The entry that stops packets on a device which the change doesn't touch has the device's number and words."""
+        servers = ("object-group network MAIL\n host 10.0.2.5\n host 10.0.2.6\nip access-list extended SERVERS\n permit icmp any any\n"
+                   " deny   tcp any object-group MAIL eq 25\n permit ip any any\n")
+        for version in ("old", "new"):
+            self.write(version + "/R2.cfg", R2.replace(" ip address 10.0.2.1", " ip access-group SERVERS out\n ip address 10.0.2.1").replace(
+                "ip route", servers + "ip route"))
+        self.assertEqual(self.lines_told(R1.replace(" deny ", " permit tcp any host 10.0.2.5 eq smtp\n deny ")), [
+            "without effect: R1.cfg:25 + 30 permit tcp any host 10.0.2.5 eq smtp [list USERS]",
+            "    R1 treats some packets otherwise, but they end alike: tcp 10.0.1.7 -> 10.0.2.5:25 from R1 GigabitEthernet0/0 is dropped at R2 "
+            "by list SERVERS, `20 deny tcp any object-group MAIL eq 25` (R2.cfg:12)"])
+
+    def test_numbers_in_all_documents(self):
+        """No document names a number, or a folder, that only the prepared texts have: here entries have a thousand times their numbers."""
+        more = (" permit tcp any object-group SERVERS eq 135\n permit tcp 10.0.1.0 255.255.255.0 any eq 443\n permit udp any any eq bootps\n")
+        self.write("new/R1.cfg", R1.replace(" deny ", more + " deny "))
+        self.write("questions", QUESTIONS.replace("135", "443"))
+        names = ("page", "json", "sarif", "junit")
+        _, output, errors = self.window("old", "new", "links", "--questions", "questions", *(
+            word for name in names for word in ("--" + name, name)), "--foreign", "--keep", "kept")
+        self.assertEqual(errors, [])
+        self.assertIn("\n 30001 permit tcp any host 10.0.2.6 eq 135\n", self.read("kept/new/R1.cfg"))
+        for text in ("\n".join(output), *map(self.read, names)):
+            self.assertEqual(re.findall(r"\b[1-6]000[0-9]\b|%s\S*" % re.escape(self.temporary), text), [])
+        self.assertIn("list USERS in denies at 30", self.read("page"))
+        self.assertIn("list USERS in permits at 40", self.read("page"))
+
     def test_left_out_only_in_one_folder(self):
         self.write("new/R1.cfg", WIDER.replace("2001:DB8:1::1/64", "2001:DB8:9::1/64"))
         _, output, _ = self.window("old", "new", "links")
@@ -219,7 +270,7 @@ class Folders(Runs):
         self.window("old", "new", "links", "--keep", "written", "--as-written")
         self.assertIn("\nip route 0.0.0.0 0.0.0.0 GigabitEthernet0/1 10.0.12.2\n", self.read("running/old/R1.cfg"))
         self.assertIn("\nip route 0.0.0.0 0.0.0.0 10.0.12.2\n", self.read("written/old/R1.cfg"))
-        self.assertIn("ip route 0.0.0.0 0.0.0.0 10.0.12.2: out of GigabitEthernet0/1, while which is up", self.read("running/table"))
+        self.assertIn("ip route 0.0.0.0 0.0.0.0 10.0.12.2: out of GigabitEthernet0/1: a router uses it", self.read("running/table"))
 
     def test_keep_is_not_free(self):
         self.write("kept/file", "x")
@@ -300,7 +351,7 @@ class Tickets(Runs):
         status, output, errors = self.window("old", "links", "--tickets", "tickets", "--keep", "kept")
         self.assertEqual((status, errors), (1, []))
         self.assertEqual(output[0], "old with tickets")
-        self.assertEqual([line for line in output if line.startswith(("packets", "1 "))][:2], CHANGED)
+        self.assertEqual([line for line in output if line.startswith(("packets", "1 opens"))], CHANGED)
         self.assertIn("old/R1.cfg with tickets/R1.2.txt\n", self.read("kept/table"))
 
     def test_what_is_not_followed(self):
@@ -353,7 +404,7 @@ class Revisions(Runs):
         status, output, errors = self.window("--git", "repository", "v2", "v3", "net/configs", "net/links", "--questions", "net/questions")
         self.assertEqual((status, errors), (1, []))
         self.assertEqual(output[0], "v2:net/configs -> v3:net/configs")
-        self.assertEqual([line for line in output if line.startswith(("packets", "1 "))][:2], CHANGED)
+        self.assertEqual([line for line in output if line.startswith(("packets", "1 opens"))], CHANGED)
         self.assertIn("questions: 1, all hold", output)
 
     def test_working_tree_and_a_folder_within(self):
@@ -366,6 +417,13 @@ class Revisions(Runs):
     def test_tickets_of_a_revision(self):
         status, output, errors = self.window("--git", "repository", "v3", "v4", "net/configs", "net/links", "--tickets", "net/tickets")
         self.assertEqual((status, errors, output[0]), (1, [], "v3:net/configs with net/tickets of v4"))
+
+    def test_revision_without_a_device(self):
+        """The device is gone from the new network, and the verdict says so."""
+        status, output, errors = self.window("--git", "repository", "v3", "v5", "net/configs", "net/links")
+        self.assertEqual((status, errors, output[0]), (1, [], "v3:net/configs -> v5:net/configs"))
+        self.assertEqual(output[2], "All of it comes of R2.cfg:1 - hostname R2. Without it packets don't change.")
+        self.assertIn("1 closes: no longer gets through, at R2 GigabitEthernet0/1", output)
 
     def test_places(self):
         self.commit("v6", {"net/configs/R2.cfg": R2.replace("end", "ip routing protocol\nrouter rip\nend")})

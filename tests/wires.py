@@ -88,7 +88,7 @@ SUBNETS = [
 EDGES = [
     made("an interface alone", config("R1", "Ethernet0|" + ip("10.1.0.1")), ["! 10.1.0.0/24: no other device is in this subnet", "ingress R1 Ethernet0"]),
     made("a loopback", config("R1", "Loopback0|" + ip("10.1.0.1", "255.255.255.255")),
-         ["! 10.1.0.1/32: a loopback, behind which nobody is", "! ingress R1 Loopback0"]),
+         ["! 10.1.0.1/32: a loopback: no host is connected", "! ingress R1 Loopback0"]),
     made("a loopback with a wide mask", config("R1", "Loopback1|" + ip("10.1.0.1")), ["! ingress R1 Loopback1"]),
     made("management by its name", config("R1", "mgmt0|" + ip("10.1.0.1")),
          ["! 10.1.0.0/24: it looks like a management interface", "! ingress R1 mgmt0"]),

@@ -11,10 +11,12 @@ import re
 import sys
 from collections import Counter
 from dataclasses import dataclass, field, replace
-from typing import Any, Callable, Iterable, NamedTuple
+from functools import partial
+from typing import Any, Callable, Container, Iterable
 
-from header_words import Places, question_of
+from header_words import Places, questions_of
 from origin import Origins
+from prepared import Prepared, Unseen, hidden_lines, prepared_of
 from programs import TOP, Stop
 from revisions import Repository, Revision, WorkingTree
 from words import READ_FILES, Words
@@ -27,7 +29,8 @@ from preparing.faults import Fault, Faults, NotFound  # noqa: E402
 from preparing.list_editing import list_of  # noqa: E402
 from preparing.list_users import LIST_CHANGES, users_of  # noqa: E402
 from preparing.outputs import check_free, write_folder  # noqa: E402
-from preparing.texts import files_of, read_bytes, says_something, to_bytes  # noqa: E402
+from preparing.processes import for_each  # noqa: E402
+from preparing.texts import files_of, read_bytes, says_something  # noqa: E402
 from preparing.told import Told, without_secrets  # noqa: E402
 from preparing.waivers import Waiver, check_used, read_waivers  # noqa: E402
 
@@ -50,15 +53,15 @@ class Side:
     active: str | None
     prepared: str
     texts: dict[str, bytes] = field(default_factory=dict)
-    devices: dict[str, Any] = field(default_factory=dict)
+    devices: dict[str, Prepared] = field(default_factory=dict)
     same: set[str] = field(default_factory=set)
 
 
 @dataclass
 class Brought:
     """What the programs are given: the words with the paths of what was brought in, and how these are called. `told` are lines for the
-    text behind its title, `last` those at its end, `warnings` what `prepare` left out or can't follow and a change touches, `table` all that
-    was prepared, `tables` the link tables that were found."""
+    text behind its title, `last` those at its end, `warnings` what `prepare` left out or can't follow and a change touches, `table` all
+    that was prepared, `tables` the link tables that were found."""
 
     words: Words
     origins: Origins
@@ -92,14 +95,6 @@ class Brought:
         answered(lambda: write_folder(folder, files))
 
 
-class Unseen(NamedTuple):
-    """A line of a device's file that isn't in the prepared text, nor anything in its place."""
-
-    path: str
-    number: int
-    text: str
-
-
 def answered(work: Callable[[], Any]) -> Any:
     """What the work gives; a fault ends the run with its line and status."""
     try:
@@ -119,7 +114,9 @@ def from_revisions(words: Words, folder: str) -> tuple[Words, tuple[Side, Side],
     assert words.git is not None
     repository = Repository(words.git)
     old = Revision(repository, words.revisions[0], os.path.join(folder, "revision", "old"))
-    new = Revision(repository, words.revisions[1], os.path.join(folder, "revision", "new")) if words.revisions[1:] else WorkingTree(repository)
+    new: Revision | WorkingTree = WorkingTree(repository)
+    if words.revisions[1:]:
+        new = Revision(repository, words.revisions[1], os.path.join(folder, "revision", "new"))
     changed: dict[str, Any] = {"links": old.file(words.links)}
     if words.newlinks is None and read_bytes(new.file(words.links)) != read_bytes(changed["links"]):
         changed["newlinks"] = new.file(words.links)
@@ -128,7 +125,8 @@ def from_revisions(words: Words, folder: str) -> tuple[Words, tuple[Side, Side],
         if isinstance(path, str) and not os.path.isabs(path):
             changed[name] = new.file(path)
     sides = []
-    for version, revision in (("old", old), ("new", new)):
+    versions: list[tuple[str, Revision | WorkingTree]] = [("old", old), ("new", new)]
+    for version, revision in versions:
         tickets_there = words.tickets is not None and version == "new"
         sides.append(Side(
             (old if tickets_there else revision).folder(words.old), new.folder(words.tickets) if tickets_there and words.tickets else None,
@@ -160,13 +158,16 @@ def stems_with_tickets(side: Side) -> set[str]:
     return {stem for stem in (tickets.stem_of(name, stems) for name in os.listdir(side.tickets) if name.endswith(".txt")) if stem}
 
 
-def needs(words: Words, side: Side, waived: Iterable[str]) -> set[str]:
-    """The files of a side that have to be read whole."""
+def needs(words: Words, side: Side, waived: Iterable[str], other: Side | None = None, of_other: Container[str] = ()) -> set[str]:
+    """The files of a side that have to be read whole. Where another side is known already, files that are the same are as there."""
     if side.routes or side.active or words.vrf:
         return set(side.texts)
     ticketed = {stem + ".cfg" for stem in stems_with_tickets(side)}
-    names = set(waived)
-    return {file for file, content in side.texts.items() if file in ticketed or needs_text(content.decode("latin-1"), words.as_written, names)}
+    names, texts = set(waived), side.texts
+    same = {file for file in texts if other is not None and other.texts.get(file) == texts[file]}
+    files = [file for file in texts if file not in same and file not in ticketed]
+    looked = for_each(files, lambda file: needs_text(texts[file].decode("latin-1"), words.as_written, names), sum(map(len, texts.values())))
+    return ticketed | {file for file, needed in zip(files, looked) if needed} | {file for file in same if file in of_other}
 
 
 def needs_text(text: str, as_written: bool, waived: set[str]) -> bool:
@@ -216,23 +217,12 @@ def reader_of(side: Side) -> Callable[[str, str], Any]:
     return read
 
 
-def hidden_lines(device: Any) -> set[tuple[str, int]]:
-    """The lines whose meaning stands elsewhere in a prepared text, or that have none: those of groups and lists, and prompts."""
-    found = set()
-    for block in device.blocks:
-        words = block.words()
-        is_prompt = words and words[0].startswith((device.name + "#", device.name + ">"))
-        if words[:1] in (["object-group"], ["no"]) or list_of(block) or is_prompt:
-            found |= {(line.path, line.number) for line in block.lines()}
-    return found
-
-
 def prepare_side(words: Words, side: Side, files: list[str], tables: frozenset[str], waivers: dict[str, list[Waiver]]) -> None:
     """Prepares these files of a side."""
     asked = PrepareWords(side.configs, side.prepared, side.routes, words.vrf, side.active, keep_static=side.routes is not None,
                          as_written=words.as_written, by_table=tables)
-    devices = preparation.prepared(asked, files, reader_of(side)) if files else []
-    preparation.waive_lines(devices, waivers)
+    wanted = partial(prepared_of, with_table=words.keep is not None, with_statics=words.routes is not None)
+    devices = preparation.prepared(asked, files, waivers, reader_of(side), wanted) if files else []
     side.devices = {device.file: device for device in devices}
 
 
@@ -259,26 +249,12 @@ def write_side(side: Side, origins: Origins, other: Side) -> None:
             os.symlink(os.path.abspath(path), target)
             origins.add(target, path, None, None)
             continue
-        lines = preparation.lines_of(device.blocks)
         with open(target, "wb") as stream:
-            stream.write(to_bytes(lines))
-        origins.add(target, path, device.table, lines, moved)
+            stream.write(device.content)
+        origins.add(target, path, device.table, device.sources, moved)
 
 
 # ---- what is told
-
-
-def unseen(device: Any) -> list[Unseen]:
-    """The lines that are left out, or have been replaced by a table's routes, and that nothing in the prepared text says."""
-    stay = {(line.path, line.number) for line in preparation.lines_of(device.blocks)} | device.hidden
-    return [Unseen(line.path, line.number, " ".join(line.words())) for line in device.lines
-            if says_something(line) and (line.path, line.number) not in stay]
-
-
-def changed_lines(device: Any) -> int:
-    """How many lines of the device's file aren't read as they stand."""
-    stay = {(line.path, line.number): line.text for line in preparation.lines_of(device.blocks)}
-    return sum(says_something(line) and stay.get((line.path, line.number)) != line.text for line in device.lines)
 
 
 def only_here(here: list[Unseen], there: list[Unseen]) -> list[Unseen]:
@@ -299,20 +275,10 @@ def left_out_warnings(old: Side, new: Side) -> list[str]:
     for file in sorted(set(old.devices) | set(new.devices)):
         if file in new.same:
             continue
-        lines = [unseen(side.devices[file]) if file in side.devices else [] for side in (old, new)]
+        lines = [side.devices[file].unseen if file in side.devices else [] for side in (old, new)]
         for here, there in (lines, lines[::-1]):
-            told += ["%s:%d: left out, only in this folder: %s" % (one.path, one.number, without_secrets(one.text)) for one in only_here(here, there)]
-    return told
-
-
-def ticket_warnings(new: Side) -> list[str]:
-    """What the tickets touch and the model can't follow."""
-    told = []
-    for device in new.devices.values():
-        for path, table in device.tickets:
-            for first, _, what, text, reason in table.rows:
-                if what == "not followed":
-                    told.append("%s: not followed: %s: %s" % ("%s:%d" % (path, first) if first else path, text, reason))
+            told += ["%s:%d: left out, only in this folder: %s" % (one.path, one.number, without_secrets(one.text))
+                     for one in only_here(here, there)]
     return told
 
 
@@ -346,15 +312,13 @@ def redistribution_warnings(old: Side, new: Side) -> list[str]:
     """The static routes that only one network has, on a device that hands them on to a protocol which doesn't react here."""
     told = []
     for file, device in new.devices.items():
-        handed = [line for block in device.raw if block.words()[:1] == ["router"] for line in block.inner()
-                  if line.words()[:2] == ["redistribute", "static"]]
-        if not handed or new.routes is None or file not in old.devices:
+        handed = device.handed
+        if handed is None or new.routes is None or file not in old.devices:
             continue
-        statics = [[Unseen(line.path, line.number, " ".join(line.words())) for line in one.lines if line.words()[:2] == ["ip", "route"]]
-                   for one in (old.devices[file], device)]
+        statics = (old.devices[file].statics, device.statics)
         for here, there in (statics, statics[::-1]):
             told += ["%s:%d: known to %s alone, though line %d is `%s`: %s" % (
-                one.path, one.number, device.name, handed[0].number, " ".join(handed[0].words()), one.text) for one in only_here(here, there)]
+                one.path, one.number, device.name, handed.number, handed.text, one.text) for one in only_here(here, there)]
     return told
 
 
@@ -370,7 +334,7 @@ def title_of(words: Words) -> str:
 def prepared_line(words: Words, sides: tuple[Side, Side]) -> str:
     """How much was prepared, and where the table of it stands."""
     devices = [device for side in sides for device in side.devices.values()]
-    counts = [changed_lines(device) for device in devices]
+    counts = [device.changed for device in devices]
     count, files = sum(counts), sum(map(bool, counts))
     table = "told in %s" % os.path.join(words.keep, "table") if words.keep else "--keep FOLDER keeps the texts and the table"
     return "prepared: %d line%s of %d file%s; %s" % (count, "" if count == 1 else "s", files, "" if files == 1 else "s", table)
@@ -378,13 +342,7 @@ def prepared_line(words: Words, sides: tuple[Side, Side]) -> str:
 
 def table_of(sides: tuple[Side, Side]) -> list[str]:
     """The table of all that was prepared."""
-    lines: list[str] = []
-    for side in sides:
-        for file, device in sorted(side.devices.items()):
-            for _, told in device.tickets:
-                lines += told.lines()
-            lines += device.told.lines()
-    return lines
+    return [line for side in sides for _, device in sorted(side.devices.items()) if device.told for line in device.told.split("\n")]
 
 
 # ---- all of it
@@ -395,7 +353,7 @@ def with_packages() -> None:
     if PACKAGES not in sys.path:
         sys.path.append(PACKAGES)
     try:
-        import textfsm  # noqa: F401
+        import textfsm  # type: ignore[import]  # noqa: F401
     except ModuleNotFoundError:
         raise Stop(70, b"window: Debian's package python3-textfsm is missing\n") from None
 
@@ -426,7 +384,8 @@ def bring_sides(words: Words, sides: tuple[Side, Side], names: dict[str, str]) -
         if not os.path.isdir(side.configs):
             raise NotFound(side.configs)
         read_side(side)
-    wanted = [needs(words, side, waivers) for side in sides]
+    wanted = [needs(words, old, waivers)]
+    wanted.append(needs(words, new, waivers, old, wanted[0]))
     origins = Origins(names=names)
     brought = Brought(words, origins, sides=sides)
     if any(wanted):
@@ -436,7 +395,8 @@ def bring_sides(words: Words, sides: tuple[Side, Side], names: dict[str, str]) -
         brought.words = replace(words, old=old.prepared, new=new.prepared)
         brought.table = [line if line.startswith(" ") else origins.rewritten(line) for line in table_of(sides)]
         brought.last.append(prepared_line(words, sides))
-        brought.warnings = left_out_warnings(old, new) + ticket_warnings(new) + redistribution_warnings(old, new)
+        brought.warnings = left_out_warnings(old, new) + [line for device in new.devices.values() for line in device.not_followed]
+        brought.warnings += redistribution_warnings(old, new)
     for name in ("questions", "questions_new"):
         path = getattr(words, name, None)
         if path:
@@ -486,13 +446,12 @@ def numbered_questions(path: str, brought: Brought, target: str) -> str:
     """The file of questions, or `target` with numbers for their words, which is called as that file."""
     if not os.path.isfile(path):
         return path
-    places = Places([brought.words.new, brought.words.old])
-    lines = read_bytes(path).decode("utf-8", "surrogateescape").split("\n")
-    found = [question_of(line, places) for line in lines]
-    if all(one.split() == other.split() for one, other in zip(found, lines)):
+    content = read_bytes(path)
+    found = questions_of(content, Places([brought.words.new, brought.words.old]))
+    if found == content:
         return path
     with open(target, "wb") as stream:
-        stream.write("\n".join(found).encode("utf-8", "surrogateescape"))
+        stream.write(found)
     brought.origins.call(target, brought.origins.called(path))
     return target
 
@@ -500,7 +459,7 @@ def numbered_questions(path: str, brought: Brought, target: str) -> str:
 def prepare_both(words: Words, sides: tuple[Side, Side], wanted: list[set[str]], waivers: dict[str, list[Waiver]]) -> None:
     """Prepares the files of both sides; the faults of both are told together."""
     old, new = sides
-    tables = frozenset()
+    tables: frozenset[str] = frozenset()
     if words.routes:
         with_packages()
         tables = by_table(old, new)

@@ -39,7 +39,8 @@ def line_of(number: int, hunks: Sequence[Hunk], shown: Shown) -> Line:
     """The line that these hunks are told as: the first one, and those that are alike on other devices; others are joined with it."""
     def told(some: Sequence[Hunk]) -> list[tuple[str, str, str]]:
         signed = [(sign, line) for hunk in some for sign, lines in (("-", hunk.old), ("+", hunk.new)) for line in lines]
-        return [(shown(line.path, line.number), sign, line.words) for sign, line in signed]
+        # (a line with object groups is read as several)
+        return list(dict.fromkeys((shown(line.path, line.number), sign, line.words) for sign, line in signed))
 
     first, *others = bundles_of(hunks)
     chief = (first[0].new or first[0].old)[0]
@@ -215,6 +216,11 @@ class Causes:
         for one in fewer:
             headers = headers - self.together[one].at(ingress)
         return headers
+
+    def without(self, lines: Iterable[int]) -> Found | Refused:
+        """What the change does without all of these lines: the old network and the new one without them."""
+        networks = self.search.networks
+        return self.search.comparisons.of([Pair(networks.old(), networks.without(self.hunks_of(lines)))])[0]
 
     def hunks_of(self, lines: Iterable[int]) -> Unit:
         return frozenset(hunk for line in lines for hunk in self.search.effects[line].unit)

@@ -12,8 +12,10 @@ from concurrent.futures import ProcessPoolExecutor
 from typing import Iterable, NamedTuple, Sequence
 
 from cubes import Headers, by_outcome, sections, union
-from jobs import REFUSED, Job, Progress, Refused, gathered, is_built, processors, run_all
+from jobs import REFUSED, Job, Refused, gathered, is_built, processors, run_all
 from rendering import Network
+
+from launching.progress import Progress
 
 # Reports of more bytes than this, in all, are read by several processes.
 LONG = 2_000_000

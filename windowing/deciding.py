@@ -3,6 +3,7 @@ from __future__ import annotations
 
 import filecmp
 import os
+import re
 from dataclasses import dataclass, field
 from typing import Callable, Container, Mapping, Sequence
 
@@ -13,10 +14,11 @@ import expecting
 import findings
 import warned
 from cubes import Headers, Values
+from document_kinds import DocumentKinds
 from field_words import header_text
 from model import Cause, Edge, Expected, Finding, Part, Result, Warnings
 from networks import Network, network_of
-from parts import Lans, parts_of, places_of
+from parts import Lans, Places, parts_of, places_of
 from programs import Stop, run
 from sources import asked_sources, empty_folder, read_sources, write
 from telling import example_of
@@ -53,6 +55,9 @@ class Deciding:
     new: Network | None = None
     reports: int = 0
     behaviours: dict[str, Mapping[str, Headers]] = field(default_factory=dict)
+
+    def __post_init__(self) -> None:
+        self.kinds = DocumentKinds(self.folder).of
 
     def path(self, name: str) -> str:
         """A file of the folder."""
@@ -151,7 +156,7 @@ class Deciding:
             old, new = self.networks()
             tables = [write(self.path("edges-%d" % at), network.links.segments() + "".join("ingress %s\n" % place for place in some))
                       for at, network in enumerate((old, new)[:len(self.words.tables())])]
-            parts = parts_of(places_of(self.compare(self.words.old, self.words.new, *tables)), sources, lans)
+            parts = parts_of(places_of(self.compare(self.words.old, self.words.new, *tables)), sources, lans, self.kinds)
             kinds = {place: tuple(dict.fromkeys(part.kind for part in parts if part.plausible and part.ingress == place)) for place in some}
         return [Edge(edge.place, edge.addresses, edge.why, kinds.get(edge.place)) for edge in found]
 
@@ -195,10 +200,9 @@ class Deciding:
         run("review", ["trace", self.completed(new, "new"), table, *place.split(" "), header_text(header)], path)
         return stranger_of(answers.lines_of(path), {place for lan in new.links.lans for place in lan})
 
-    def decide(self, report: str, warnings: Sequence[str], causes_of: CausesOf = no_causes) -> Result:
-        """All of it, of the report of the comparison and the doctor's warnings."""
-        words = self.words
-        places, rows = places_of(report), rows_of(report)
+    def decide(self, report: str, places: Places, warnings: Sequence[str], causes_of: CausesOf = no_causes) -> Result:
+        """All of it, of the report of the comparison, which says `places`, and the doctor's warnings."""
+        words, rows = self.words, rows_of(report)
         ingresses = list(rows)
         expectations = expecting.read_expectations(words.expect, ingresses) if words.expect else None
         outcomes = {text for alike in places.values() for pair in alike for side in pair for text in side.split(" | ")}
@@ -206,7 +210,7 @@ class Deciding:
         sources = self.sources(ingresses + [edge.place for edge in found_edges if edge.why][:MOST_EDGES])
         here = {place: sources[place] for place in ingresses}
         lans = Lans(*self.networks())
-        parts = parts_of(places, sources, lans)
+        parts = parts_of(places, sources, lans, self.kinds)
         title = words.title or "%s -> %s" % (words.old, words.new)
         result = Result(title, words.old, words.new, tuple(words.tables()), rows, here)
         if expectations:
@@ -255,12 +259,7 @@ def stranger_of(trace: Sequence[str], ends: Container[str]) -> str:
 
 def rows_of(report: str) -> dict[str, int]:
     """How many rows a report has at each ingress, in its order."""
-    found = {}
-    for line in report.split("\n"):
-        if line.startswith("ingress "):
-            place, _, count = line[len("ingress "):].rpartition(" rows ")
-            found[place] = int(count)
-    return found
+    return {found[1]: int(found[2]) for found in re.finditer(r"^ingress (.*) rows ([0-9]+)$", report, re.MULTILINE)}
 
 
 def helped(stop: Stop, tables: Sequence[str], refused_in: Callable[[str, bytes], bool]) -> Stop:

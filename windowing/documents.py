@@ -15,7 +15,7 @@ from kinds import outcome_of
 from line_words import line_text
 from model import Cause, Edge, Expected, Finding, Group, Idle, Line, Missing, Question, Result
 from telling import example_of, headers_lines, kind_words, question_text
-from verdict import fewest_lines, rest_without, sentence_of, word_of
+from verdict import fewest_lines, sentence_of, word_of
 
 SCHEMA, VERSION = "diqenyu-window", 1
 
@@ -115,7 +115,8 @@ def line_document(line: Line, result: Result) -> dict[str, object]:
     why = next((one for one in result.idle if one.line == line.number), None)
     beside = next((one.reason for one in result.beside if one.line == line.number), None)
     return {
-        "number": line.number, "path": line.path or None, "place": line.place, "sign": line.sign, "text": line.text, "other": line.other or None,
+        "number": line.number, "path": line.path or None, "place": line.place, "sign": line.sign, "text": line.text,
+        "other": line.other or None,
         "kind": line.kind, "device": line.device, "also": list(line.also), "words": line_text(line),
         "idle": None if why is None else {"reason": why.reason, "backup": why.backup, "quiet": why.quiet}, "beside": beside,
         "holds back": line.number in result.holds_back, "note": result.notes.get(line.number)}
@@ -140,7 +141,7 @@ def document_of(result: Result, status: int) -> dict[str, object]:
     return {
         "schema": SCHEMA, "version": VERSION, "title": result.title, "status": status,
         "told": result.prepared, "prepared": result.last,
-        "verdict": {"word": word_of(result), "words": sentence_of(result), "lines": list(behind), "rest": rest_without(result, behind)},
+        "verdict": {"word": word_of(result), "words": sentence_of(result), "lines": list(behind), "rest": result.rest if behind else None},
         "old": result.old, "new": result.new, "links": list(result.tables), "identical": result.identical is not None,
         "ingresses": [place_of(place, rows=rows) for place, rows in result.rows.items()],
         "sources": sources_document(result.sources), "expected": expected_document(result.expected),

@@ -1,4 +1,4 @@
-"""Interfaces where packets could come in and that are no ingress, so that nobody looks at what the change does to these packets."""
+"""Interfaces where packets could come in and that are no ingress, so that no report says what the change does to these packets."""
 from __future__ import annotations
 
 import re
@@ -63,6 +63,6 @@ def not_looked_at(old: Network, new: Network, outcomes: Iterable[str]) -> tuple[
     for place, interface in edges.items():
         if place not in ingresses:
             device = place.split(" ")[0]
-            why = "on a device that the change touches" if device in changed else "behind what the change does" if place in ends else ""
+            why = "on a device that the change touches" if device in changed else "where packets that change leave" if place in ends else ""
             found.append(Found(place, tuple(address.text() for address in interface.addresses), why))
     return sorted(found, key=lambda edge: not edge.why), len(edges)

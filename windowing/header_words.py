@@ -22,8 +22,8 @@ from preparing.faults import Fault  # noqa: E402
 from preparing.texts import read_lines  # noqa: E402
 
 # IANA: service names that access lists of IOS have not.
-SERVICES = {"dns": 53, "http": 80, "https": 443, "imaps": 993, "ldap": 389, "ldaps": 636, "mysql": 3306, "ntp": 123, "radius": 1812, "rdp": 3389,
-            "sip": 5060, "smb": 445, "snmp": 161, "ssh": 22, "submission": 587}
+SERVICES = {"dns": 53, "http": 80, "https": 443, "imaps": 993, "ldap": 389, "ldaps": 636, "mysql": 3306, "ntp": 123, "radius": 1812,
+            "rdp": 3389, "sip": 5060, "smb": 445, "snmp": 161, "ssh": 22, "submission": 587}
 PORTS = {**SERVICES, **UDP, **names.UDP, **TCP, **names.TCP}
 PROTOCOL_NUMBERS = {**PROTOCOLS, **names.PROTOCOLS}
 FLAG_BITS = dict(fin=1, syn=2, rst=4, psh=8, ack=16, urg=32)
@@ -139,6 +139,15 @@ def question_of(line: str, places: Places) -> str:
             found = places.subnet(*named[value])
             fields[k] = value if found is None else "%s/%d" % (dotted(found[0] & mask_of(found[1])), found[1])
     return " ".join(words[:first] + fields)
+
+
+def questions_of(content: bytes, places: Places) -> bytes:
+    """A file of questions in numbers; the same bytes where no line has a word."""
+    lines = content.decode("utf-8", "surrogateescape").split("\n")
+    found = [question_of(line, places) for line in lines]
+    if all(one.split() == other.split() for one, other in zip(found, lines)):
+        return content
+    return "\n".join(found).encode("utf-8", "surrogateescape")
 
 
 def main() -> int:

@@ -35,12 +35,22 @@ class Text(NamedTuple):
     words: str
 
 
+class Own(NamedTuple):
+    """What the engineer's own file has of an entry that is read with another number: the number on the device, the place of the line, and
+    its words. Such a line may be read as several entries, as one with object groups."""
+
+    number: int
+    place: tuple[str, int]
+    words: str
+
+
 class Entry(NamedTuple):
-    """An entry of an access list: its sequence number, its words without it, and the line that writes it."""
+    """An entry of an access list: its sequence number, its words without it, the line that writes it, and the engineer's own one."""
 
     sequence: int
     words: str
     line: Text
+    own: Own | None = None
 
 
 @dataclass
@@ -482,7 +492,8 @@ class Change:
             slots.append(Slot(("interface", interface, aspect), *says, number))
 
     def compare_list(self, slots: list[Slot], name: str, key: str, old: AccessList | None, new: AccessList | None) -> None:
-        """Runs of entries. An entry that moves joins its two places; a list that is new or gone, or of the other kind, is one hunk."""
+        """Runs of entries. An entry that moves joins its two places, as do entries of one line of the engineer's; a list that is new or
+        gone, or of the other kind, is one hunk."""
         self.pass_over(self.unread, name, "list " + key, old.remarks if old else [], new.remarks if new else [], "remark")
         before, after = (old.entries if old else []), (new.entries if new else [])
         if old and new and old.extended != new.extended:
@@ -498,8 +509,10 @@ class Change:
         added = {entry.words for number in changed for entry in runs[number].new}
 
         def keys(number: int) -> list[Hashable]:
-            words = [entry.words for entry in runs[number].old if entry.words in added]
-            return [number, *words, *(entry.words for entry in runs[number].new if entry.words in removed)]
+            old, new = runs[number]
+            places = [entry.own.place for entry in (*old, *new) if entry.own]
+            return [number, *places, *(entry.words for entry in old if entry.words in added),
+                    *(entry.words for entry in new if entry.words in removed)]
 
         number_of: dict[int, int] = {}
         for together in in_order(classes(changed, keys), self.most):

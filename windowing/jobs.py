@@ -8,17 +8,15 @@ from __future__ import annotations
 import os
 import re
 import subprocess
-import sys
 import threading
-import time
 from concurrent.futures import FIRST_COMPLETED, Executor, Future, ThreadPoolExecutor, wait
 from functools import lru_cache
 from typing import Callable, NamedTuple, Sequence, TypeVar
 
 from programs import Stop, command_of, standing
 
-# After so many seconds a terminal is told how far the jobs are.
-PATIENCE = 2.0
+from launching.progress import Progress
+
 REFUSED = 3
 
 
@@ -35,31 +33,6 @@ class Job(NamedTuple):
     words: Sequence[str]
     path: str
     refuses: tuple[int, ...] = (REFUSED,)
-
-
-class Progress:
-    """How far the jobs are, on a terminal and after some patience only."""
-
-    def __init__(self, what: str) -> None:
-        self.what, self.began, self.done, self.total, self.shown = what, time.monotonic(), 0, 0, False
-
-    def more(self, count: int) -> None:
-        self.total += count
-
-    def step(self, count: int) -> None:
-        """So many jobs more are done; also none, as time goes on."""
-        self.done += count
-        seconds = time.monotonic() - self.began
-        if seconds > PATIENCE and sys.stderr.isatty():
-            self.shown = True
-            sys.stderr.write("\r%s: %d of %d jobs, %d seconds " % (self.what, self.done, self.total, seconds))
-            sys.stderr.flush()
-
-    def end(self) -> None:
-        if self.shown:
-            sys.stderr.write("\r\033[K")
-            sys.stderr.flush()
-            self.shown = False
 
 
 def processors() -> int:

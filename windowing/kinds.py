@@ -1,8 +1,12 @@
-"""What a change does to packets, by what an engineer fears of it."""
+"""What a change does to packets, by what an engineer fears of it.
+
+The kinds are those of the proved document of a report (`document_kinds`), but for two that it can't know: it has neither lans nor next
+hops.
+"""
 from __future__ import annotations
 
 from functools import lru_cache
-from typing import Callable, Mapping, NamedTuple
+from typing import Mapping, NamedTuple
 
 # From the most feared to the least feared. `view` has these without `unanswered` and `moves on a lan`: it knows neither lans nor next hops.
 KINDS = ("loops", "closes", "unanswered", "opens", "sometimes", "translated otherwise", "moves", "moves on a lan", "loop gone")
@@ -13,11 +17,11 @@ KIND_WORDS = {
     "closes": "no longer gets through",
     "unanswered": "leaves over a lan to a next hop that nobody has",
     "opens": "gets through now",
-    "sometimes": "loses some of its equal ways now",
+    "sometimes": "loses some of its equal-cost paths now",
     "translated otherwise": "ends where it did, with other addresses or ports",
     "moves": "ends elsewhere",
     "moves on a lan": "leaves by another router of its lan",
-    "loop gone": "goes round no more, and gets no further than before",
+    "loop gone": "no longer goes round, and gets no further than before",
 }
 
 
@@ -45,16 +49,8 @@ class Side(NamedTuple):
     unanswered: frozenset[Outcome]
 
     @property
-    def drops(self) -> bool:
-        return any(outcome.end == "drop" for outcome in self.all)
-
-    @property
-    def loops(self) -> bool:
-        return any(outcome.end == "expired" for outcome in self.all)
-
-    @property
     def loses_some(self) -> bool:
-        return self.drops or self.loops
+        return any(outcome.end in ("drop", "expired") for outcome in self.all)
 
     @property
     def places(self) -> frozenset[tuple[str, str]]:
@@ -77,43 +73,16 @@ def is_on_one_lan(old: Side, new: Side, lans: Lans) -> bool:
     return before == after and None not in before
 
 
-# The first rule that holds says the kind.
-RULES: tuple[tuple[str, Callable[[Side, Side, Lans], bool]], ...] = (
-    ("loops", lambda old, new, lans: new.loops and not old.loops),
-    ("closes", lambda old, new, lans: bool(old.through) and not new.through),
-    ("unanswered", lambda old, new, lans: bool(new.unanswered - old.unanswered)),
-    ("opens", lambda old, new, lans: bool(new.through) and not old.through),
-    # (nothing gets through in either network: what was dropped on some ways goes round on all of them)
-    ("loops", lambda old, new, lans: not new.through and not new.drops),
-    ("loop gone", lambda old, new, lans: not new.through),
-    ("sometimes", lambda old, new, lans: old.loses_some != new.loses_some),
-    ("translated otherwise", lambda old, new, lans: old.through != new.through and old.places == new.places),
-    ("moves on a lan", lambda old, new, lans: old.through != new.through and is_on_one_lan(old, new, lans)),
-    ("moves", lambda old, new, lans: old.through != new.through),
-    ("loop gone", lambda old, new, lans: old.loops and not new.loops),
-    # (only what is lost beside a loop that stays)
-    ("sometimes", lambda old, new, lans: True),
-)
+def kind_of(known: str, old: Side, new: Side, lans: Lans) -> str:
+    """The kind of a change from one side to another one, for headers that have one side in each network, by the kind that is `known` of its
+    outcomes alone.
 
+    An exit is answered by nobody where it leaves over a lan for an address that is not in a subnet of its interface: it was sent to a next
+    hop that no end of the lan has.
 
-def kind_of(old: Side, new: Side, lans: Lans) -> str:
-    """The kind of a change from one side to another one, for headers that have one side in each network; the sides differ.
-
-    What gets through is each outcome `local` or `exit`; what is lost is `drop` and `expired`. An exit is answered by nobody where it
-    leaves over a lan for an address that is not in a subnet of its interface: it was sent to a next hop that no end of the lan has. In
-    this order:
-
-    - `loops`: some way expires in the new network, and none in the old one; or nothing gets through in either, and in the new one every
-      way expires
-    - `closes`: something gets through in the old network, and nothing does in the new one
-    - `unanswered`: an exit that nobody answers, which the old network doesn't have
-    - `opens`: something gets through in the new network, and nothing does in the old one
-    - `loop gone`: nothing gets through in either, and the new one has a drop
-    - `sometimes`: something gets through in both, and ways are lost in exactly one of them
-    - `translated otherwise`: what gets through differs, and ends in the same ways at the same places
-    - `moves on a lan`: what gets through differs, and in both networks leaves over the same lans
-    - `moves`: what gets through differs otherwise
-    - `loop gone`: the same gets through, and only the old network has a way that expires
-    - `sometimes`: the same gets through, and what is lost beside it differs otherwise
+    - `unanswered`: an exit that nobody answers, which the old network doesn't have, where the kind is neither `loops` nor `closes`
+    - `moves on a lan`: what moves, and leaves over the same lans in both networks
     """
-    return next(kind for kind, holds in RULES if holds(old, new, lans))
+    if known not in ("loops", "closes") and new.unanswered - old.unanswered:
+        return "unanswered"
+    return "moves on a lan" if known == "moves" and is_on_one_lan(old, new, lans) else known

@@ -3,17 +3,28 @@ from __future__ import annotations
 
 import os
 import re
-from typing import Callable, Protocol, Sequence
+from typing import Protocol, Sequence
 
+from answers import examination_of
 from causes import Causes, Search, causes_of
 from comparing import Comparisons, Found, Pair
-from jobs import Job, Progress, run_all
+from hunks import Own, entry_words
+from jobs import Job, run_all
 from reasons import Notes, add_reasons
-from rendering import Folders, Network, folders_of, networks_of
+from rendering import Folders, Network, Owner, folders_of, networks_of
+from warned import ONLY_HERE
+
+from launching.progress import Progress
 
 
 class Place(Protocol):
     """A line of the engineer's own file; `entry` is the number that an entry has on the device, where the file that is read has another."""
+
+    @property
+    def path(self) -> str: ...
+
+    @property
+    def line(self) -> int: ...
 
     @property
     def entry(self) -> int | None: ...
@@ -24,6 +35,8 @@ class Places(Protocol):
 
     def place(self, path: str, line: int) -> Place | None: ...
 
+    def written(self, path: str, line: int) -> str | None: ...
+
     def shown(self, path: str, line: int) -> str: ...
 
 
@@ -31,6 +44,9 @@ class OwnPlaces:
     """Where nothing was prepared, the lines are the engineer's own."""
 
     def place(self, path: str, line: int) -> Place | None:
+        return None
+
+    def written(self, path: str, line: int) -> str | None:
         return None
 
     def shown(self, path: str, line: int) -> str:
@@ -52,38 +68,43 @@ def examined(folders: Folders, work: str, progress: Progress) -> tuple[dict[str,
     links, told = os.path.join(work, "touched-links"), os.path.join(work, "touched-told")
     with open(links, "w", encoding="utf-8") as stream:
         stream.write("ingress none none\n")
-    run_all([Job("doctor", ["--all", *places, links], told)], progress)
+    run_all([Job("doctor", ["--all", "--json", *places, links], told)], progress)
     return read_doctor(told, original)
 
 
 def read_doctor(told: str, original: dict[str, str]) -> tuple[dict[str, set[int]], Notes]:
-    """The same, of what the doctor wrote of copies of the files."""
+    """The same, of the doctor's document on copies of the files."""
+    examination = examination_of(told)
     passed: dict[str, set[int]] = {}
+    for place in examination.ignored:
+        if place.path in original:
+            passed.setdefault(original[place.path], set()).add(place.line)
     notes = Notes({}, {}, set())
-    with open(told, encoding="utf-8", errors="surrogateescape", newline="\n") as stream:
-        for line in stream:
-            match = re.match(r"(.*?)(?::([0-9]+): (passed over[^:]*): |: route (\S+) by (\S+): (.*))", line)
-            path = original.get(match[1]) if match else None
-            if not match or path is None:
-                continue
-            if match[4]:
-                notes.routes[path, match[4], match[5]] = match[6]
-            elif match[3] == "passed over":
-                passed.setdefault(path, set()).add(int(match[2]))
-            elif match[3] == "passed over, only in this folder":
-                notes.warned.add((path, int(match[2])))
+    for warning in examination.warnings:
+        path = original.get(warning.place.path)
+        if path is None:
+            continue
+        if warning.kind == "passed over":
+            reason = warning.says.split(": ", 1)[0]
+            if reason == ONLY_HERE:
+                notes.warned.add((path, warning.place.line))
             else:
-                notes.lines[path, int(match[2])] = match[3]
+                notes.lines[path, warning.place.line] = reason
+        route = re.match(r"route (\S+) by (\S+): (.*)", warning.says) if warning.kind == "configuration" else None
+        if route:
+            notes.routes[path, route[1], route[2]] = route[3]
     return passed, notes
 
 
-def own_number(places: Places) -> Callable[[str, int], int | None]:
-    """Which number an entry has on the device, where the file that is read has another one."""
-    def number(path: str, line: int) -> int | None:
+def owner_of(places: Places) -> Owner:
+    """What the engineer's own file has of an entry, where the file that is read has it with another number."""
+    def owner(path: str, line: int) -> Own | None:
         place = places.place(path, line)
-        return place.entry if place is not None else None
+        if place is None or place.entry is None:
+            return None
+        return Own(place.entry, (place.path, place.line), entry_words(" ".join((places.written(path, line) or "").split())))
 
-    return number
+    return owner
 
 
 def find_causes(old: str, new: str, tables: Sequence[str], report: Found, work: str, places: Places = OwnPlaces(),
@@ -95,7 +116,7 @@ def find_causes(old: str, new: str, tables: Sequence[str], report: Found, work: 
     try:
         folders = folders_of(old, new)
         passed, notes = examined(folders, work, progress)
-        networks = networks_of(folders, list(tables), passed, work, finer, own_number(places))
+        networks = networks_of(folders, list(tables), passed, work, finer, owner_of(places))
         given = Pair(Network(old, tables[0]), Network(new, tables[-1]))
         search = Search(networks, Comparisons(work, progress), given, finer)
         search.run(report)

@@ -49,6 +49,11 @@ def named(line: Text) -> str:
     return " (%s)" % ", ".join(found) if found else ""
 
 
+def words_of(line: Text, access_list: AccessList) -> str:
+    """The words of the entry that a line writes, as they are read."""
+    return next((entry.words for entry in access_list.entries if entry.line == line), entry_words(line.words))
+
+
 def place(line: Text, shown: Shown, words: str | None = None) -> str:
     """A line with its place."""
     return "`%s` (%s)" % (words or line.words, shown(line.path, line.number))
@@ -82,14 +87,14 @@ class Lists:
             return ""
         old, new = change.old[hunk.device].lists.get(key), device.lists.get(key)
         same = self.same_words(hunk, old, new)
-        found = [] if same else self.of_entries(hunk.new, new) + self.of_entries(hunk.old, old)
+        found = [] if same else list(dict.fromkeys(self.of_entries(hunk.new, new) + self.of_entries(hunk.old, old)))
         return same or "; ".join(found[:2]) + (" and %d more" % (len(found) - 2) if len(found) > 2 else "")
 
     def same_words(self, hunk: Hunk, old: AccessList | None, new: AccessList | None) -> str:
         """Whether one entry stands for another that matches the same packets."""
         if not old or not new or len(hunk.old) != 1 or len(hunk.new) != 1 or old.extended != new.extended:
             return ""
-        before, after = entry_words(hunk.old[0].words), entry_words(hunk.new[0].words)
+        before, after = (words_of(line, access_list) for line, access_list in ((hunk.old[0], old), (hunk.new[0], new)))
         if before.split()[0] != after.split()[0]:
             return ""
         heads = [re.sub("^(permit|deny) ", "permit ", words) for words in (before, after)]
@@ -116,7 +121,7 @@ class Lists:
         return found
 
     def of_entry(self, line: Text, kind: str, takers: Sequence[Entry]) -> str:
-        said = listed([self.place(entry.line, entry.words) for entry in takers], 2)
+        said = listed(list(dict.fromkeys(self.place(entry.line, entry.own.words if entry.own else entry.words) for entry in takers)), 2)
         words = entry_words(line.words)
         if kind == "dead":
             return "`%s` decides no packet, " % words + ("behind " + said if said else "since it matches none")

@@ -188,9 +188,9 @@ class Result:
     """All that is to be told of a change window.
 
     `lines` are the changed lines, `idle` those without effect, `holds_back` those that keep as it was what the others would change,
-    `beside` those that would do something alone and take no part beside the others, and `notes` what is to be known of a line.
-    `sources` has those that can be at each ingress; `identical` says how many files the two folders have, where they are equal byte for
-    byte and so are their tables."""
+    `beside` those that would do something alone and take no part beside the others, and `notes` what is to be known of a line. `rest` says
+    what the change does without the lines that the verdict names. `sources` has those that can be at each ingress; `identical` says how
+    many files the two folders have, where they are equal byte for byte and so are their tables."""
 
     title: str
     old: str
@@ -212,6 +212,7 @@ class Result:
     holds_back: list[int] = field(default_factory=list)  # lines without which more would change
     beside: list[Idle] = field(default_factory=list)  # lines whose part others do already
     notes: dict[int, str] = field(default_factory=dict)  # what is to be known of a line besides
+    rest: str | None = None
     lines_untold: str = ""  # why nobody looked at lines, where that was asked
     as_given: bool = True  # whether the doctor tells of the folders as they were given what it told here
     prepared: list[str] = field(default_factory=list)  # what is to be known of prepared texts before the verdict

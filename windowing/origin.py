@@ -54,6 +54,7 @@ class Origins:
         """Takes a prepared text: line N of `path` comes from `sources[N - 1]`, or is line N of the file that it was made of, `own`.
         `table` is the table of routes that has a part in it; `moved` has paths of sources that are meant as others."""
         self.texts[path] = Text(own, table, sources, moved or {})
+        self._entries.pop(path, None)
         self._found = None
 
     def call(self, path: str, name: str) -> None:
@@ -88,6 +89,17 @@ class Origins:
             return None
         return Place(self.called(source.path), source.number, source.entry)
 
+    def written(self, path: str, line: int) -> str | None:
+        """The line of the engineer's own file from which a line of a prepared text comes, as it stands there; None where the text isn't
+        prepared, or the line comes of `prepare` itself."""
+        source = self.source(path, line) if path in self.texts else None
+        if source is None or source.number == 0:
+            return None
+        if source.path not in self._own:
+            with open(source.path, encoding="utf-8", errors="surrogateescape", newline="\n") as stream:
+                self._own[source.path] = stream.read().split("\n")
+        return self._own[source.path][source.number - 1]
+
     def shown(self, path: str, line: int) -> str:
         """The place as a person reads it: `DIST1.cfg:80`, or `DIST1.cfg (from its route table)`."""
         place = self.place(path, line)
@@ -107,14 +119,25 @@ class Origins:
     def entry(self, path: str, name: str, number: int) -> Source | None:
         """The source of the entry that has this number in the extended list of this name in a prepared text; None where it is no other
         number than the device's."""
-        text, inside = self.texts.get(path), False
-        for source in text.sources or () if text is not None else ():
-            words = getattr(source, "text", "").split()
-            if words[:1] == ["ip"]:
-                inside = words == ["ip", "access-list", "extended", name]
-            elif inside and source.entry is not None and words[:1] == [str(number)]:
-                return source
-        return None
+        if path not in self._entries:
+            self._entries[path] = self.entries_of(path)
+        return self._entries[path].get((name, str(number)))
+
+    def entries_of(self, path: str) -> dict[tuple[str, str], Source]:
+        """The sources of the entries of a prepared text that have another number on the device, by their lists and the numbers there."""
+        text = self.texts.get(path)
+        if text is None or text.sources is None or not any(source.entry is not None for source in text.sources):
+            return {}
+        found: dict[tuple[str, str], Source] = {}
+        name = ""
+        with open(path, encoding="utf-8", errors="surrogateescape", newline="\n") as stream:
+            for line, source in zip(stream, text.sources):
+                words = line.split()
+                if words[:1] == ["ip"]:
+                    name = words[3] if words[:3] == ["ip", "access-list", "extended"] and len(words) == 4 else ""
+                elif name and source.entry is not None:
+                    found.setdefault((name, words[0]), source)
+        return found
 
     def _pattern(self) -> re.Pattern[str]:
         """What finds a prepared path, or one that has another name, with the line behind it."""
@@ -145,7 +168,7 @@ class Origins:
         if listed is not None and listed["path"] in self.texts:
             source = self.entry(listed["path"], listed["name"], int(listed["number"]))
             if source is not None:
-                return told[:listed.start()] + "%s:%d: entry %d of the access list %s" % (
+                return told[:listed.start()] + "%s:%d: entry %s of the access list %s" % (
                     self.called(self.texts[listed["path"]].moved.get(source.path, source.path)), source.number, source.entry,
                     listed["name"]) + told[listed.end():]
         line = self._found.sub(own, told)
@@ -154,3 +177,5 @@ class Origins:
         return line
 
     _found: re.Pattern[str] | None = field(default=None, repr=False, compare=False)
+    _own: dict[str, list[str]] = field(default_factory=dict, repr=False, compare=False)
+    _entries: dict[str, dict[tuple[str, str], Source]] = field(default_factory=dict, repr=False, compare=False)

@@ -153,6 +153,6 @@ class Paging:
             tables.append(page.File("links of " + name, "found in the configurations", size, evidence.sum_of(content)))
         traces = traces_of(document, deciding, self.brought)
         beside = page.Beside(
-            self.made(), ascii_of(self.command), tables, evidence.programs_of(("review", "doctor")),
+            self.made(), ascii_of(self.command), tables, evidence.programs_of(("review", "doctor", "view")),
             [ascii_of(self.brought.origins.rewritten(limit)) for limit in limits], wiring_of(deciding.networks()[1]), traces)
         return page.page_of(document, beside)

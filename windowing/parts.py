@@ -1,10 +1,11 @@
 """Cuts a report into parts: by its outcomes, by sources that can be at the ingress, and by the kind of the change."""
 from __future__ import annotations
 
-from typing import Mapping
+from typing import Callable, Iterable, Mapping
 
 import cubes
 from cubes import Headers, Values
+from document_kinds import Ends
 from kinds import Outcome, Side, kind_of, outcome_of, side_of
 from model import Part
 from networks import Network
@@ -47,6 +48,8 @@ def sides_of(headers: Headers, texts: tuple[str, ...], lans: Lans, side: int) ->
     return [(some, side_of(texts, marks)) for some, marks in pieces]
 
 
+# The kinds of pairs of outcomes, as the proved document has them (`document_kinds`).
+KindsOf = Callable[[Iterable[Ends]], Mapping[Ends, str]]
 # At each ingress, in the report's order, the headers for each pair of old and new outcomes as a report writes them.
 Places = Mapping[str, Mapping[tuple[str, str], Headers]]
 
@@ -56,15 +59,16 @@ def places_of(report: str) -> Places:
     return {ingress: cubes.by_outcome(rows) for ingress, rows in cubes.sections(report)}
 
 
-def parts_of(places: Places, sources: Mapping[str, Values], lans: Lans) -> list[Part]:
+def parts_of(places: Places, sources: Mapping[str, Values], lans: Lans, kinds: KindsOf) -> list[Part]:
     """The parts of a report, in its order; of each those of plausible sources first."""
     found: list[Part] = []
+    known = kinds(pair for alike in places.values() for pair in alike)
     for ingress, alike in places.items():
         for (old, new), headers in alike.items():
             before, after = tuple(old.split(" | ")), tuple(new.split(" | "))
             for some, old_side in sides_of(headers, before, lans, 0):
                 for piece, new_side in sides_of(some, after, lans, 1):
-                    kind = kind_of(old_side, new_side, lans.names)
+                    kind = kind_of(known[old, new], old_side, new_side, lans.names)
                     here, foreign = cut(piece, sources, ingress)
                     both = ((here, True), (foreign, False))
                     found += [Part(ingress, part, before, after, plausible, kind) for part, plausible in both if part]

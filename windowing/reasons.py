@@ -18,7 +18,7 @@ from causes import Causes, Shown, header_of, line_of, traced
 from comparing import Found
 from cubes import Section, Values, address_of, by_outcome, dotted, sections
 from field_words import listed
-from hunks import LINKS, Change, Device, Hunk, read_device
+from hunks import LINKS, Change, Device, Hunk
 from jobs import answer_of, is_built, processors
 from list_reasons import Lists, down, named, place
 from model import Idle
@@ -30,8 +30,8 @@ PROTOCOLS = {"1": "icmp", "6": "tcp", "17": "udp"}
 
 
 class Notes(NamedTuple):
-    """What the doctor says of lines, by their paths and numbers, and of routes, by path, prefix and next hop as it writes them. `warned` has
-    the lines that are passed over and that it warns of, since they are in one folder alone."""
+    """What the doctor says of lines, by their paths and numbers, and of routes, by path, prefix and next hop as it writes them. `warned`
+    has the lines that are passed over and that it warns of, since they are in one folder alone."""
 
     lines: dict[tuple[str, int], str]
     routes: dict[tuple[str, str, str], str]
@@ -272,7 +272,7 @@ class Reasons:
             paths = [os.path.join(folder, file) for file in configurations(folder)]
             head = re.compile(rb"^hostname[ \t]+%s[ \t\r]*$" % re.escape(name.encode("utf-8", "surrogateescape")), re.MULTILINE)
             path = next((path for path in paths if head.search(content(path))), None)
-            self.read[name] = read_device(path) if path else None
+            self.read[name] = self.networks.read(path) if path else None
         return self.read[name]
 
     # ---- routes

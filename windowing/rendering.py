@@ -9,9 +9,9 @@ from __future__ import annotations
 import os
 import re
 from dataclasses import dataclass, field
-from typing import Callable, Iterable, NamedTuple
+from typing import Callable, Container, Iterable, NamedTuple
 
-from hunks import LINKS, Change, Device, Entry, Hunk, Slot, change_of, read_device
+from hunks import LINKS, Change, Device, Entry, Hunk, Own, Slot, change_of, read_device
 
 Owned = list[tuple[str, "int | None"]]  # the lines of a text, each with the hunk that it is of
 
@@ -23,6 +23,23 @@ class Network(NamedTuple):
     folder: str
     links: str
     devices: tuple[str, ...] = ()
+
+
+Owner = Callable[[str, int], "Own | None"]  # what the engineer's own file has of a line that is read with another number
+
+
+def nobody(path: str, line: int) -> Own | None:
+    """Nothing was prepared."""
+    return None
+
+
+def as_own(entry: Entry, own: Own | None, both: Container[str]) -> Entry:
+    """An entry that is told as the engineer's own line, with its number on the device. A line that `both` networks have says nothing of
+    what its groups hold now: then the entry's own words are told."""
+    if own is None:
+        return entry
+    words = entry.words if own.words in both else own.words
+    return entry._replace(own=own, line=entry.line._replace(words="%d %s" % (own.number, words)))
 
 
 def entries_text(kind: str, key: str, entries: Owned) -> Owned:
@@ -55,11 +72,13 @@ def device_lines(name: str, slots: Iterable[Slot], taken: frozenset[int]) -> Own
 
 @dataclass
 class Networks:
-    """Writes the networks of a change below the folder `work`, each once. `same` are the files of the devices that it doesn't touch."""
+    """Writes the networks of a change below the folder `work`, each once. `same` are the files of the devices that it doesn't touch;
+    `owner` says what the engineer's own files have of entries."""
 
     change: Change
     same: list[str]
     work: str
+    owner: Owner = nobody
     written: dict[frozenset[int], Network] = field(default_factory=dict)
     states: dict[tuple[str, frozenset[int]], str] = field(default_factory=dict)
 
@@ -69,6 +88,13 @@ class Networks:
         self.touched: dict[str, frozenset[int]] = {
             name: frozenset(slot.hunk for slot in slots if slot.hunk is not None) for name, slots in self.change.slots.items()}
         self.everything = frozenset(range(len(self.change.hunks)))
+
+    def read(self, path: str) -> Device:
+        """A device that the change doesn't touch, with the entries of its lists as the engineer's own."""
+        device = read_device(path)
+        for access_list in device.lists.values():
+            access_list.entries = [as_own(entry, self.owner(entry.line.path, entry.line.number), ()) for entry in access_list.entries]
+        return device
 
     def new(self) -> Network:
         return self.without(frozenset())
@@ -184,19 +210,27 @@ def folders_of(old: str, new: str) -> Folders:
                    *([os.path.join(folder, name) for name in some if name not in same] for folder, some in zip((old, new), names)))
 
 
-def with_number(entry: Entry, number: int | None) -> Entry:
-    """An entry that is told under this number, if there is one."""
-    return entry if number is None else entry._replace(line=entry.line._replace(words="%d %s" % (number, entry.words)))
+def own_lines(devices: Iterable[Device], owner: Owner) -> dict[tuple[str, str], set[str]]:
+    """By device and list the words of the engineer's own lines of entries that are read with other numbers."""
+    found: dict[tuple[str, str], set[str]] = {}
+    for device in devices:
+        for key, access_list in device.lists.items():
+            owners = [owner(entry.line.path, entry.line.number) for entry in access_list.entries]
+            found[device.name, key] = {own.words for own in owners if own is not None}
+    return found
 
 
 def networks_of(folders: Folders, tables: list[str], passed: dict[str, set[int]], work: str, finer: bool = False,
-                own: Callable[[str, int], int | None] = lambda path, line: None) -> Networks:
-    """The networks of a change, of which `passed` says by its path which lines of a configuration are passed over, and `own` which number
-    an entry has on the device where the file has another one."""
-    def devices(paths: list[str]) -> dict[str, Device]:
-        read = [read_device(path, passed.get(path, ())) for path in paths]
-        for access_list in [one for device in read for one in device.lists.values()]:
-            access_list.entries = [with_number(entry, own(entry.line.path, entry.line.number)) for entry in access_list.entries]
-        return {device.name: device for device in read}
-
-    return Networks(change_of(devices(folders.old), devices(folders.new), tables, finer), folders.same, work)
+                owner: Owner = nobody) -> Networks:
+    """The networks of a change, of which `passed` says by its path which lines of a configuration are passed over, and `owner` what the
+    engineer's own file has of an entry that has another number there."""
+    old, new = ([read_device(path, passed.get(path, ())) for path in paths] for paths in (folders.old, folders.new))
+    lines = own_lines(old, owner), own_lines(new, owner)
+    for device in old + new:
+        for key, access_list in device.lists.items():
+            both = lines[0].get((device.name, key), set()) & lines[1].get((device.name, key), set())
+            access_list.entries = [as_own(entry, owner(entry.line.path, entry.line.number), both) for entry in access_list.entries]
+            # (what `prepare` writes above the entries of a line is no remark of the engineer's)
+            access_list.remarks = [line for line in access_list.remarks if owner(line.path, line.number) is None]
+    before, after = ({device.name: device for device in devices} for devices in (old, new))
+    return Networks(change_of(before, after, tables, finer), folders.same, work, owner)

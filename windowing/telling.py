@@ -85,7 +85,7 @@ def expected_words(finding: Finding, result: Result) -> str:
 def kind_words(finding: Finding) -> str:
     """What becomes of its packets."""
     if finding.kind == "sometimes" and not any(side_of(group.new).loses_some for group in finding.groups):
-        return "loses none of its equal ways any more"
+        return "no longer loses any of its equal-cost paths"
     return KIND_WORDS[finding.kind]
 
 
@@ -156,7 +156,7 @@ def marks_line(result: Result) -> str:
             (fail_now, "question fails now", "questions fail now"),
             (len(result.warnings.new), "new warning", "new warnings"),
             (sum(idle.counts for idle in result.idle), "line without effect", "lines without effect"),
-            (sum(bool(edge.why) and edge.kinds != () for edge in result.edges), "edge where nobody looks", "edges where nobody looks"),
+            (sum(bool(edge.why) and edge.kinds != () for edge in result.edges), "edge that is no ingress", "edges that are no ingress"),
             (expected, "as expected", "as expected"), (len(result.warnings.both), "standing warning", "standing warnings")]
     return ", ".join(counted(*mark) for mark in some if mark[0])
 
@@ -213,7 +213,8 @@ def warning_lines(warnings: Warnings, result: Result) -> list[str]:
     lines = ["new warning: " + warning for warning in warnings.new]
     if warnings.both:
         command = " ".join(map(shlex.quote, ["./doctor", result.old, result.new, *result.tables]))
-        lines.append("standing warnings: %d, as in the old network; all by %s" % (len(warnings.both), command if result.as_given else "--json"))
+        told = command if result.as_given else "--json"
+        lines.append("standing warnings: %d, as in the old network; all by %s" % (len(warnings.both), told))
     if warnings.accepted:
         lines.append("accepted warnings: %d" % len(warnings.accepted))
     if warnings.gone:
@@ -233,7 +234,7 @@ def edge_lines(edges: Sequence[Edge]) -> list[str]:
     quiet = [edge.place for edge in edges if edge.kinds == ()]
     lines = ["edge: " + edge_text(edge) for edge in told[:MOST_EDGES]]
     if len(told) > MOST_EDGES:
-        lines.append("edges: %d more that are no ingress, with which the change has to do (--all-edges)" % (len(told) - MOST_EDGES))
+        lines.append("edges: %d more that are no ingress and that the change concerns (--all-edges)" % (len(told) - MOST_EDGES))
     if quiet:
         lines.append("edges where nothing changes, though they are no ingress: %s" % listed(quiet, MOST_EDGES))
     return lines
@@ -256,7 +257,7 @@ def idle_lines(result: Result) -> list[str]:
         lines += ["to be known of %s" % line_text(by_number[number]), "    " + note]
     quiet = [line_text(by_number[idle.line]) for idle in result.idle if idle.quiet]
     lines += ["says nothing of packets: %s" % listed(quiet, 1)] if quiet else []
-    return lines + (["lines: not told, since %s" % result.lines_untold] if result.lines_untold else [])
+    return lines + (["lines: not listed, since %s" % result.lines_untold] if result.lines_untold else [])
 
 
 def more_line(findings: Sequence[Finding]) -> list[str]:

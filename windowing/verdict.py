@@ -57,9 +57,9 @@ def reasons(result: Result) -> list[str]:
     if changed:
         kinds = [kind for kind in KINDS if any(kind in (edge.kinds or ()) for edge in changed)]
         more = " and %d more" % (len(changed) - 1) if changed[1:] else ""
-        found.append("packets change where nobody looks: %s at %s%s" % (", ".join(kinds), changed[0].place, more))
+        found.append("packets change at edges that are no ingress: %s at %s%s" % (", ".join(kinds), changed[0].place, more))
     if unseen:
-        found.append("%d edges where nobody looks" % len(unseen))
+        found.append("%d edges that are no ingress" % len(unseen))
     if not found[1:] and result.warnings.both:
         found.append("%d standing warnings" % len(result.warnings.both) if result.warnings.both[1:] else "a standing warning")
     if not fail_now and CAUSES["standing-questions"](result):
@@ -100,14 +100,6 @@ def fewest_lines(findings: Sequence[Finding]) -> tuple[int, ...]:
     return ()
 
 
-def rest_without(result: Result, some: Sequence[int]) -> str | None:
-    """What the change without these lines still does; None where there are no lines."""
-    if not some:
-        return None
-    left = [finding for finding in result.findings if stays(finding.cause, frozenset(some))]
-    return "the change still does the rest: %s" % kinds_words(left) if left else "packets don't change"
-
-
 def lines_behind(result: Result) -> list[str]:
     """Which lines are behind all that isn't expected, and what the change without them still does."""
     some = fewest_lines(result.undecided)
@@ -115,7 +107,8 @@ def lines_behind(result: Result) -> list[str]:
         return []
     by_number = {line.number: line for line in result.lines}
     told = " and ".join(line_text(by_number[number]) for number in some)
-    return ["All of it comes of %s. Without %s %s." % (told, "it" if len(some) == 1 else "them", rest_without(result, some))]
+    without = " Without %s %s." % ("it" if len(some) == 1 else "them", result.rest) if result.rest else ""
+    return ["All of it comes of %s.%s" % (told, without)]
 
 
 def verdict_of(result: Result) -> list[str]:

@@ -1,5 +1,6 @@
 #!/usr/bin/env python3
 """Looks at a change window as a whole: what was not read, what changes, and which questions fail afterwards. docs/GUIDE.md tells how."""
+import importlib
 import os
 import signal
 import sys
@@ -9,15 +10,17 @@ import traceback
 import answers
 import documents
 import expecting
-import paging
 import telling
 from bringing import bring
 from causes import Unfaithful
 from comparing import found_in
 from deciding import Deciding, helped, no_causes
 from lines import find_causes
+from parts import Lans
 from programs import Stop, run, tell_unproved, version
+from rest import rest_of
 from statuses import causes_in, status_of
+from verdict import fewest_lines
 from words import USAGE, Usage, read_words
 
 
@@ -38,8 +41,9 @@ class Window:
         """The doctor's warnings, and the limits of the model that it tells. What it warns of may stop the comparison: then all of it
         is told before the line of that."""
         words = self.words
-        run("doctor", [words.old, words.new] + words.tables(), self.path("notes"))
-        return answers.notes_of(self.path("notes"))
+        run("doctor", ["--json", words.old, words.new] + words.tables(), self.path("notes"))
+        found = answers.examination_of(self.path("notes"))
+        return [warning.shown() for warning in found.warnings], found.limit_lines()
 
     def compare(self, notes):
         """The report of the comparison, with the edges that are to be ingresses."""
@@ -69,25 +73,29 @@ class Window:
             return stop.told.rstrip(b"\n").endswith(line)
         return False
 
-    def causes(self):
-        """What each changed line does, and why nobody can tell where nobody can."""
+    def causes(self, report):
+        """What each changed line does, and why nobody can tell where nobody can. `report` is what the comparison found."""
         words, work = self.words, self.path("lines")
         os.mkdir(work)
         try:
-            return find_causes(words.old, words.new, self.deciding.tables(), found_in(self.path("report")), work,
-                               self.origins, words.finer), ""
+            return find_causes(words.old, words.new, self.deciding.tables(), report, work, self.origins, words.finer), ""
         except Unfaithful as unfaithful:
             return None, "the changed files aren't read here as `review` reads them (%s)" % unfaithful
 
     def decide(self, notes, warnings):
         """What is to be told, with the lines of which it comes."""
-        report = self.compare(notes)
-        causes, untold = (None, "") if self.words.no_lines else self.causes()
-        result = self.deciding.decide(report, warnings, causes.of if causes else no_causes)
+        text = self.compare(notes)
+        report = found_in(self.path("report"))
+        causes, untold = (None, "") if self.words.no_lines else self.causes(report)
+        result = self.deciding.decide(text, report.places, warnings, causes.of if causes else no_causes)
         result.lines_untold = untold
         if causes:
             result.lines, result.idle, result.beside = causes.lines, causes.idle, causes.beside
             result.holds_back, result.notes = causes.holds_back, causes.notes
+            behind = fewest_lines(result.undecided)
+            if behind:
+                lans = Lans(*self.deciding.networks())
+                result.rest = rest_of(causes.without(behind), report, result.sources, lans, self.deciding.kinds)
         return result
 
 
@@ -125,12 +133,14 @@ def tell(lines):
 def look(words, given):
     """Does what the words say; gives the status. `given` are the words as they were given."""
     fail_on = causes_in(words.fail_on)
-    if words.page:
+    # (reading the modules of a page takes a third of the time of a small window without one)
+    paging = importlib.import_module("paging") if words.page else None
+    if paging:
         paging.check()
-    tell_unproved(("doctor", "review"), ("rollout",))
+    tell_unproved(("doctor", "review", "view"), ("rollout",))
     with tempfile.TemporaryDirectory(prefix="diqenyu-window-") as folder:
         brought = bring(words, folder)
-        rests = paging.Paging(words, brought, given) if words.page else None
+        rests = paging.Paging(words, brought, given) if paging else None
         window = Window(brought.words, folder, brought.origins)
         try:
             warnings, limits = window.examine()

@@ -56,7 +56,8 @@ def neighbor_faults(row: Row, ports: list[Port], devices: dict[str, Device], see
     faults = []
     for sight in seen.sights:
         for port in ports:
-            if sight.device == port.device and port in devices[sight.device].carried_by(sight.interface) and sight.other not in names | {None}:
+            here = sight.device == port.device and port in devices[sight.device].carried_by(sight.interface)
+            if here and sight.other not in names | {None}:
                 shared = [other for other in devices[str(sight.other)].carried_by(sight.port) if set(other.subnets()) & set(port.subnets())]
                 if shared:
                     faults.append("%s says that %s %s is behind %s %s" % ((sight.place, sight.other, sight.port) + port.end()))
@@ -73,11 +74,11 @@ def missing_links(rows: list[Row], wiring: Wiring) -> list[str]:
         if not rows_here:
             told.append("missing: %s (%s)" % (segment.line(), segment.why))
         elif absent:
-            told.append("missing at line %d: %s (%s)" % (min(line_of[port.end()].line.number for port in segment.ports if port.end() in line_of),
-                                                         ", ".join("%s %s" % port.end() for port in absent), segment.why))
+            first = min(line_of[port.end()].line.number for port in segment.ports if port.end() in line_of)
+            told.append("missing at line %d: %s (%s)" % (first, ", ".join("%s %s" % port.end() for port in absent), segment.why))
         elif len(rows_here) > 1:
-            told.append("lines %s are one link: %s (%s)" % (
-                ", ".join(str(number) for number in sorted({line_of[port.end()].line.number for port in segment.ports})), segment.line(), segment.why))
+            numbers = sorted({line_of[port.end()].line.number for port in segment.ports})
+            told.append("lines %s are one link: %s (%s)" % (", ".join(map(str, numbers)), segment.line(), segment.why))
     return told
 
 

@@ -5,7 +5,7 @@ import os
 from dataclasses import dataclass, field
 from typing import Iterator
 
-import textfsm
+import textfsm  # type: ignore[import]
 
 from preparing.faults import Refused
 from preparing.texts import Line, files_of, read_lines

@@ -64,8 +64,8 @@ class Device:
     switched: set[str] = field(default_factory=set)
 
     def carried_by(self, name: str) -> list[Port]:
-        """The ports whose packets a physical interface carries: its own, its subinterfaces', those of its channel, or the VLANs' of a switch
-        port."""
+        """The ports whose packets a physical interface carries: its own, its subinterfaces', those of its channel, or the VLANs' of a
+        switch port."""
         if name in self.channels:
             name = next((other for other in self.interfaces if parts_of(other) == ("port-channel", self.channels[name])), name)
         own = [port for port in self.ports.values() if main_of(port.name) == name]

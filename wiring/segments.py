@@ -74,7 +74,8 @@ class Joined:
 
 
 def direct_pairs(devices: dict[str, Device], seen: Seen, told: list[str]) -> tuple[set[tuple], dict[tuple[str, str], set[str]]]:
-    """The pairs of ends that neighbours tell of, and for each end the devices that are seen behind it, where all of them are the network's."""
+    """The pairs of ends that neighbours tell of, and for each end the devices that are seen behind it, where all of them are the
+    network's."""
     pairs: set[tuple] = set()
     behind: dict[tuple[str, str], set[str]] = defaultdict(set)
     foreign: set[tuple[str, str]] = set()
@@ -86,7 +87,8 @@ def direct_pairs(devices: dict[str, Device], seen: Seen, told: list[str]) -> tup
         for port in ports:
             behind[port.end()].add(sight.other)
         others = devices[sight.other].carried_by(sight.port)
-        found = {tuple(sorted((port.end(), other.end()))) for port in ports for other in others if set(port.subnets()) & set(other.subnets())}
+        found = {tuple(sorted((port.end(), other.end()))) for port in ports for other in others
+                 if set(port.subnets()) & set(other.subnets())}
         if not found and len(ports) == len(others) == 1:
             found = {tuple(sorted((ports[0].end(), others[0].end())))}
             if ports[0].end() < others[0].end() or not seen.of(sight.other, sight.port):
@@ -118,8 +120,8 @@ def shared_subnets(groups: dict[Subnet, list[Port]], behind: dict[tuple[str, str
             continue
         twice = same_address(subnet, ports)
         if twice:
-            told.append("%s: %s have the address %s, so this subnet joins nothing: say with neighbours or by hand which of them are linked" % (
-                subnet.text(), " and ".join("%s %s" % port.end() for port in twice[1]), dotted(twice[0])))
+            told.append("%s: %s have the address %s, so this subnet joins nothing: say with neighbours or by hand which of them are linked"
+                        % (subnet.text(), " and ".join("%s %s" % port.end() for port in twice[1]), dotted(twice[0])))
             continue
         pairs += [(one, other) for one, other in chained(ports, behind)]
     return pairs
@@ -136,7 +138,8 @@ def same_address(subnet: Subnet, ports: list[Port]) -> tuple[int, list[Port]] | 
 
 
 def chained(ports: list[Port], behind: dict[tuple[str, str], set[str]]) -> list[tuple[Port, Port]]:
-    """Pairs that join the ports of a subnet: each with each other that its neighbours don't exclude. Without neighbours a chain is enough."""
+    """Pairs that join the ports of a subnet: each with each other that its neighbours don't exclude. Without neighbours a chain is
+    enough."""
     if not any(port.end() in behind for port in ports):
         return list(zip(ports, ports[1:]))
     return [(one, other) for place, one in enumerate(ports) for other in ports[place + 1:]
@@ -189,7 +192,7 @@ def alone_edge(port: Port) -> Edge:
     words = ", ".join(subnet.text() for subnet in dict.fromkeys(port.subnets()))
     kind = parts_of(port.name)[0]
     if kind == "loopback" or all(subnet.length == 32 for subnet in port.subnets()):
-        return Edge(port, "%s: a loopback, behind which nobody is" % words, True)
+        return Edge(port, "%s: a loopback: no host is connected" % words, True)
     if kind in ("mgmt", "management", "managementethernet") or MANAGEMENT.search(port.vrf) or MANAGEMENT.search(port.description):
         return Edge(port, "%s: it looks like a management interface" % words, True)
     if kind == "tunnel":
@@ -202,7 +205,8 @@ def lan_edge(port: Port) -> Edge | None:
     words = ", ".join(subnet.text() for subnet in dict.fromkeys(port.subnets()))
     if port.has_group:
         return Edge(port, "%s: hosts use its virtual address" % words)
-    if any(2 ** (32 - subnet.length) >= 2 * ROOM_FOR_HOSTS for subnet in port.subnets()) and parts_of(port.name)[0] in ("vlan", "bvi", "bdi"):
+    has_room = any(2 ** (32 - subnet.length) >= 2 * ROOM_FOR_HOSTS for subnet in port.subnets())
+    if has_room and parts_of(port.name)[0] in ("vlan", "bvi", "bdi"):
         return Edge(port, "%s: hosts may be in this subnet beside the routers" % words, True)
     return None
 

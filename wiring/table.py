@@ -51,7 +51,8 @@ def read_table(path: str) -> list[Row]:
 def table_lines(wiring: Wiring, devices: dict[str, Device], folder: str) -> list[str]:
     """A link table as lines: a comment why above each line, what is only proposed as comments."""
     sure = [edge for edge in wiring.edges if not edge.proposed]
-    lines = ["! link table of %s, written by wire: %d devices, %d links, %d ingresses" % (folder, len(devices), len(wiring.segments), len(sure))]
+    counts = len(devices), len(wiring.segments), len(sure)
+    lines = ["! link table of %s, written by wire: %d devices, %d links, %d ingresses" % (folder, *counts)]
     lines += ["! CONTRADICTION: %s" % told for told in wiring.contradictions]
     for segment in wiring.segments:
         lines += ["! %s" % segment.why, segment.line()]
@@ -60,7 +61,7 @@ def table_lines(wiring: Wiring, devices: dict[str, Device], folder: str) -> list
         lines += ["! %s" % edge.why, edge.line()]
     proposed = [edge for edge in wiring.edges if edge.proposed]
     if proposed:
-        lines += ["!", "! take the mark away where packets come in here too"]
+        lines += ["!", "! remove the mark if packets come in here too"]
         for edge in proposed:
             lines += ["! %s" % edge.why, edge.line()]
     return lines

@@ -31,6 +31,58 @@ def written(chosen):
     return shown + ["permit ip any any"], meant + ["permit ip any any"]
 
 
+# Members of groups of addresses, each with what it stands for in an entry; a range is the fewest subnets that hold it, by hand.
+NETWORKS = [
+    ("host 10.0.1.5", ["host 10.0.1.5"]), ("10.0.1.64 255.255.255.192", ["10.0.1.64 0.0.0.63"]), ("10.0.1.128 /25", ["10.0.1.128 0.0.0.127"]),
+    ("range 10.0.1.6 10.0.1.9", ["10.0.1.6 0.0.0.1", "10.0.1.8 0.0.0.1"]), ("range 10.0.1.31 10.0.1.34", [
+        "host 10.0.1.31", "10.0.1.32 0.0.0.1", "host 10.0.1.34"]), ("range 10.0.1.16 10.0.1.31", ["10.0.1.16 0.0.0.15"]), ("any", ["any"]),
+]
+# Members of groups of services: pairs of a protocol and what stands behind the source's and the destination's address.
+SERVICES = [
+    ("tcp eq www", [("tcp", "", "eq 80")]), ("tcp source eq 22", [("tcp", "eq 22", "")]), ("udp range 5000 5003", [("udp", "", "range 5000 5003")]),
+    ("tcp-udp eq domain", [("tcp", "", "eq 53"), ("udp", "", "eq 53")]), ("icmp echo", [("icmp", "", "echo")]), ("esp", [("esp", "", "")]),
+    ("tcp source gt 1023 lt 1024", [("tcp", "gt 1023", "lt 1024")]), ("udp eq ripv6", [("udp", "", "eq 521")]), ("ip", [("ip", "", "")]),
+]
+
+
+def group(chosen, kind, name, members):
+    """A random group, which may hold another one: the lines of both, and what it stands for."""
+    some = chosen.sample(members, chosen.randint(1, 2))
+    inner = chosen.sample(members, 1) if chosen.random() < 0.5 else []
+    lines = ["object-group %s %s-INNER" % (kind, name)] + [" " + line for line, _ in inner] if inner else []
+    lines += ["object-group %s %s" % (kind, name)] + [" " + line for line, _ in some] + ([" group-object %s-INNER" % name] if inner else [])
+    return lines, [one for _, several in some + inner for one in several]
+
+
+def few_entries(chosen):
+    """The next of such lists that the second opinion judges soon."""
+    while True:
+        found = written_with_groups(chosen)
+        if len(found[2]) <= 24:
+            return found
+
+
+def written_with_groups(chosen):
+    """Random groups with a list that names them, as a device shows them, and the entries by hand."""
+    lines, shown, meant, action = [], [], [], chosen.choice(["permit", "deny"])
+    for number in range(2):
+        pools = [("network", "SRC%d" % number, NETWORKS), ("network", "DST%d" % number, NETWORKS), ("service", "WHAT%d" % number, SERVICES)]
+        groups = [group(chosen, *pool) for pool in pools]
+        lines += [line for some, _ in groups for line in some]
+        words, stands = ["object-group " + name for _, name, _ in pools], [some for _, some in groups]
+        for place, other in ((0, "any"), (1, "host 10.0.1.7")):
+            if chosen.random() < 0.4:
+                words[place], stands[place] = other, [other]
+        if chosen.random() < 0.3:
+            words[2], stands[2] = "tcp", [("tcp", "", "")]
+        shown.append(" ".join([action, words[2], words[0], words[1]]))
+        meant += [" ".join(" ".join([action, protocol, source, source_port, destination, port]).split())
+                  for protocol, source_port, port in stands[2] for source in stands[0] for destination in stands[1]]
+    # (so that each entry decides)
+    last = "%s ip any any" % ("deny" if action == "permit" else "permit")
+    return lines, shown + [last], meant + [last]
+
+
 class Meant(helpers.Folders):
     """Networks of one router with a random list."""
 
@@ -46,6 +98,30 @@ class Meant(helpers.Folders):
             self.write("meant/R1.cfg", ["hostname R1"] + BASE + ["ip access-list extended L"] + [" " + line for line in meant])
             helpers.remove_folder(self.path("out"))
             self.assertEqual(self.run_program("prepare", "raw", "out")[0], 0)
+            self.assertEqual(self.compare("out", "meant"), "affected 0", seed)
+
+    def test_groups(self):
+        for seed in range(LISTS):
+            groups, shown, meant = few_entries(random.Random(200 + seed))
+            self.write("raw/R1.cfg", ["hostname R1"] + BASE + groups + ["ip access-list extended L"] + [" " + line for line in shown])
+            self.write("meant/R1.cfg", ["hostname R1"] + BASE + ["ip access-list extended L"] + [" " + line for line in meant])
+            helpers.remove_folder(self.path("out"))
+            self.assertEqual(self.run_program("prepare", "raw", "out")[0], 0)
+            self.assertEqual(self.compare("out", "meant"), "affected 0", seed)
+
+    def test_groups_by_tickets(self):
+        """A ticket that makes the groups and the list, with abbreviated words, means the same."""
+        for seed in range(LISTS):
+            groups, shown, meant = few_entries(random.Random(300 + seed))
+            self.write("raw/R1.cfg", ["hostname R1"] + BASE)
+            self.write("tickets/R1.txt", [line.replace("object-group network", "object-g net") for line in groups] + ["ip access-l ext L"]
+                       + [" " + line.replace("permit", "perm") for line in shown])
+            self.write("meant/R1.cfg", ["hostname R1"] + BASE + ["ip access-list extended L"] + [" " + line for line in meant])
+            for folder in ("applied", "out"):
+                helpers.remove_folder(self.path(folder))
+            status, told = self.run_program("prepare", "--apply", "tickets", "raw", "applied")
+            self.assertEqual(status, 0, told)
+            self.assertEqual(self.run_program("prepare", "applied", "out")[0], 0)
             self.assertEqual(self.compare("out", "meant"), "affected 0", seed)
 
     def test_tickets(self):

@@ -162,7 +162,7 @@ class Gateways(Parts):
 
 
 class Routes(Parts):
-    """Routes as they stand. A text that has them bears a mark with the day of its table."""
+    """Routes unchanged. A text that has them bears a mark with the day of its table."""
 
     def prepared(self, lines, *words):
         if "--routes" not in words:
@@ -185,7 +185,7 @@ class Routes(Parts):
             "ip route 192.168.1.0 255.255.255.0 Ethernet0 10.0.0.2 110", "ip route 192.168.1.0 255.255.255.0 Ethernet0 10.0.0.3 110",
             "ip route 192.168.2.0 255.255.255.0 10.0.0.2", "ip route 192.168.3.0 255.255.255.0 Null0 7", "end"])
         self.assertEqual(told, [
-            "all added 4 routes: those of R1.txt, as they stand",
+            "all added 4 routes: those of R1.txt, unchanged",
             "4-5 replaced router ospf 1: R1.txt has the routes",
             "6 replaced ip route 192.168.2.0 255.255.255.0 10.0.0.2: R1.txt has it",
             "7 replaced ip route 192.168.3.0 255.255.255.0 Null0 7: R1.txt has it",
@@ -198,9 +198,9 @@ class Routes(Parts):
         found, told = self.prepared(CORE, "--routes", "routes")
         self.assertEqual(found, CORE + ["ip route 192.168.2.0 255.255.255.0 10.0.0.2"])
         self.assertEqual(told, [
-            "all added R1.txt line 7, 192.168.2.0/24: no static route of the text gives it; where the text's own are meant, "
-            "--keep-static keeps them",
-            "all added 1 routes: those of R1.txt, as they stand"])
+            "all added R1.txt line 7, 192.168.2.0/24: no static route of the text gives it; to use the text's own, "
+            "give --keep-static",
+            "all added 1 routes: those of R1.txt, unchanged"])
 
     def test_no_table(self):
         lines = CORE + ["router ospf 1", " network 10.0.0.0 0.0.0.255 area 0"]
@@ -216,14 +216,14 @@ class Routes(Parts):
             "ip route 192.168.1.0 255.255.255.0 Ethernet0 10.0.0.2 110"])
         self.assertEqual(told, [
             "all left out R1.txt line 9, 192.168.3.0/24: no static route of the text gives it, and those of the text are kept",
-            "all added 1 routes: those of R1.txt, as they stand", "all kept 1 static routes: they are in the text and in R1.txt",
+            "all added 1 routes: those of R1.txt, unchanged", "all kept 1 static routes: they are in the text and in R1.txt",
             "5 kept ip route 192.168.1.0 255.255.255.0 10.0.0.9 200: it isn't in R1.txt: it floats, or is not installed"])
 
     def test_interfaces_that_differ(self):
         self.table()
         _, told = self.prepared(CORE + ["interface Ethernet1", " ip address 10.1.0.1 255.255.255.0"], "--routes", "routes")
         self.assertIn("all differs Ethernet1: it is up in the text, and R1.txt has no connected route of it: it is taken as up; "
-                      "shut it down where it isn't", told)
+                      "write shutdown if it is down", told)
 
     def test_tables_of_nobody(self):
         self.table()

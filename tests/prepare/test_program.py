@@ -1,10 +1,18 @@
 """The program as its users call it: words, statuses, what is written, and what a new user tries."""
+import io
 import os
 import shutil
+import signal
 import subprocess
 import unittest
+from unittest import mock
 
 import helpers
+
+from launching import progress
+from preparing import preparation, processes
+from preparing.command_line import PrepareWords
+from preparing.faults import Fault, Faults, ProcessDied
 
 USAGE = """usage:
   prepare CONFIGS OUT [--routes FOLDER] [--vrf NAME] [--keep-static] [--active FILE] [--waivers FILE]
@@ -230,6 +238,109 @@ class Check(helpers.Folders):
         done = subprocess.run([os.path.join(helpers.TOP, "prepare"), "raw", "more", "--check"], cwd=self.folder, capture_output=True, check=False,
                               env=dict(os.environ, DIQENYU_REVIEW="/no/such/program"))
         self.assertEqual((done.returncode, done.stderr), (70, b"review: no program /no/such/program\n"))
+
+
+class SideBySide(helpers.Folders):
+    """Many files are prepared by several processes: the same is written and told, in the same order."""
+
+    def prepared(self, processors, out, **options):
+        """The lines that are told, or those of the faults, and the files that are written, by so many processors."""
+        here = self.path(out)
+        with mock.patch.object(processes, "LONG", 0), mock.patch.object(processes, "processors", lambda: processors):
+            try:
+                told = preparation.prepare(PrepareWords(self.path("raw"), here, **options))
+            except Faults as several:
+                return [fault.line() for fault in several.faults], None
+            except Fault as fault:
+                return [fault.line()], None
+        written = []
+        for name in sorted(os.listdir(here)):
+            with open(os.path.join(here, name), "rb") as file:
+                written.append((name, file.read()))
+        return told, written
+
+    def assert_same(self, count, **options):
+        """One processor and several do the same; what that is."""
+        found = self.prepared(1, "one", **options), self.prepared(count, "several", **options)
+        helpers.remove_folder(self.path("one"))
+        helpers.remove_folder(self.path("several"))
+        self.assertEqual(found[0], found[1])
+        return found[1]
+
+    def setUp(self):
+        super().setUp()
+        for number in range(40):
+            self.write("raw/R%d.cfg" % number, ["hostname R%d" % number, "interface Ethernet0", " ip address 10.0.%d.1 255.255.255.0" % number,
+                                                "ip route 0.0.0.0 0.0.0.0 10.0.%d.2" % number, "ipv6 unicast-routing"])
+
+    def test_texts(self):
+        told, written = self.assert_same(3)
+        self.assertEqual(len(written), 40)
+        self.assertEqual([line for line in told if not line.startswith(" ")],
+                         ["%s, %s" % (self.path("raw", name + ".cfg"), name) for name in sorted("R%d" % number for number in range(40))])
+        self.assertIn(("R7.cfg", b"hostname R7\ninterface Ethernet0\n ip address 10.0.7.1 255.255.255.0\n"
+                       b"ip route 0.0.0.0 0.0.0.0 Ethernet0 10.0.7.2\n"), written)
+
+    def test_progress(self):
+        """A terminal is told how far it is where that takes a while; nothing of it stays."""
+        for is_terminal, patience in ((True, -1), (True, 60), (False, -1)):
+            told = io.StringIO()
+            told.isatty = lambda is_terminal=is_terminal: is_terminal
+            with mock.patch.object(progress, "PATIENCE", patience), mock.patch.object(progress.sys, "stderr", told):
+                self.assertEqual(len(self.prepared(3, "out")[1]), 40)
+            helpers.remove_folder(self.path("out"))
+            seen = is_terminal and patience < 0
+            self.assertEqual("\rpreparing: 40 of 40 files, " in told.getvalue(), seen)
+            self.assertEqual(told.getvalue()[-4:], "\r\033[K" if seen else "")
+
+    def test_process_that_is_killed(self):
+        def work(item):
+            if item == 20:
+                os.kill(os.getpid(), signal.SIGKILL)
+            return item
+
+        with mock.patch.object(processes, "processors", lambda: 3):
+            with self.assertRaises(ProcessDied) as caught:
+                processes.for_each(list(range(40)), work, processes.LONG)
+        self.assertEqual((caught.exception.status, caught.exception.line()), (7, "no memory: a process that prepared files died"))
+
+    def test_faults(self):
+        self.write("raw/R31.cfg", ["!"])
+        self.write("raw/R5.cfg", ["hostname R5", "ip access-list extended L", " permit ip object-group X any"])
+        told, _ = self.assert_same(3)
+        self.assertEqual(told, ["refused %s line 0 NoHostname" % self.path("raw/R31.cfg"), "refused %s line 3 UnknownGroup X" % self.path("raw/R5.cfg")])
+        self.write("raw/R31.cfg", ["hostname R6"])
+        self.write("raw/R5.cfg", ["hostname R5"])
+        told, _ = self.assert_same(3)
+        self.assertEqual(told, ["refused %s hostname taken by %s" % (self.path("raw/R6.cfg"), self.path("raw/R31.cfg"))])
+
+    def test_a_step_that_fails(self):
+        """No file of tables is wrong, but two of them are of other devices: both are told, and the hostname that stands twice before them."""
+        for number in range(40):
+            self.write("routes/R%d.txt" % number, ["Gateway of last resort is not set", "C    10.0.%d.0/24 is directly connected, Ethernet0"
+                                                   % (number if number not in (3, 9) else 200)])
+        told, _ = self.assert_same(3, routes=self.path("routes"))
+        self.assertEqual(told, ["refused %s line 2 OtherDevice R%d" % (self.path("routes/R%d.txt" % number), number) for number in (3, 9)])
+        self.write("raw/R31.cfg", ["!"])
+        told, _ = self.assert_same(3, routes=self.path("routes"))
+        self.assertEqual(told, ["refused %s line 0 NoHostname" % self.path("raw/R31.cfg")])
+        self.write("raw/R31.cfg", ["hostname R6", "interface Ethernet0", " ip address 10.0.31.1 255.255.255.0"])
+        told, _ = self.assert_same(3, routes=self.path("routes"))
+        self.assertEqual(told, ["refused %s hostname taken by %s" % (self.path("raw/R6.cfg"), self.path("raw/R31.cfg"))])
+
+    @helpers.needs_review
+    def test_waivers_and_check(self):
+        for number in (4, 33):
+            with open(self.path("raw/R%d.cfg" % number), "a", encoding="utf-8") as file:
+                file.write("router ospf 1\nrouter rip\n")
+        with mock.patch.dict(os.environ, DIQENYU_REVIEW=helpers.BUILT):
+            told, _ = self.assert_same(3, check=True)
+            self.assertEqual(told, ["refused %s line %d NotCovered router" % (self.path("raw/R%d.cfg" % number), line)
+                                    for number in (33, 4) for line in (6, 7)])
+            path = self.write("waivers", ["R4 router .. : no protocol", "R33 router ospf 1 : not this one", "R33 router rip : nor this"])
+            self.assertEqual(len(self.assert_same(3, check=True, waivers=path)[1]), 40)
+            self.write("waivers", ["R4 router .. : no protocol", "R9 router .. : it has none"])
+            self.assertEqual(self.assert_same(3, waivers=path)[0], ["refused %s line 2 NotThere R9 router .." % path])
 
 
 if __name__ == "__main__":
