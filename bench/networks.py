@@ -11,6 +11,8 @@
     networks.py hops FOLDER R H           a device with R routes by H next hops in turn, one of which gets another one
     networks.py circle FOLDER R           two routers, each with R routes and a default route to the other; nothing is changed
     networks.py folders FOLDER N          N devices of ten interfaces that have nothing to do with one another; nothing is changed
+    networks.py shown FOLDER N R E        N devices as devices show them, which `prepare` has to bring in: R routes each, a list of E entries with
+                                          names and groups; an entry of each is changed
     networks.py list FOLDER N PERCENT     a device with a list of N generated entries, one of which is changed; of a hundred
                                           entries PERCENT have any source, and as many any destination
     networks.py lists FOLDER N PERCENT C  a device with such a list for arriving and one for leaving packets, in each of which C entries change
@@ -298,6 +300,30 @@ def folders(folder, n):
     write_links(folder, links + ["ingress R0 Ethernet0"])
 
 
+def shown(folder, n, routes, entries):
+    """Device d has the subnet 10.d.0/24 of users behind a list, and its routes and its default go to its neighbour over a lan of its own."""
+    random_ = random.Random(3)
+    for version in ("old", "new"):
+        devices = {"D%d" % d: as_shown(random.Random(d), d, routes, entries, version == "new") for d in range(n)}
+        write(folder, version, devices)
+    write_links(folder, ["ingress D%d GigabitEthernet0/0" % random_.randrange(n)])
+
+
+def as_shown(random_, d, routes, entries, is_new):
+    """The lines of such a device."""
+    users, hop = "10.%d.%d" % (d // 256, d % 256), "172.16.%d.2" % (d % 256)
+    lines = ["!", "ipv6 unicast-routing", "object-group network SERVERS", " host 192.0.2.5", " 198.51.100.0 255.255.255.0", "!"]
+    lines += ["interface GigabitEthernet0/0", " description users", " ip address %s.1 255.255.255.0" % users, " ip access-group USERS in",
+              " ipv6 address 2001:DB8:%x::1/64" % d, "interface GigabitEthernet0/1", " ip address 172.16.%d.1 255.255.255.0" % (d % 256)]
+    lines += [line for port in range(24) for line in ("interface GigabitEthernet1/0/%d" % port, " switchport access vlan 10", " spanning-tree portfast")]
+    lines += ["ip route 172.20.%d.%d 255.255.255.252 %s" % (r // 64, r % 64 * 4, hop) for r in range(routes)]
+    lines += ["ip route 0.0.0.0 0.0.0.0 %s" % hop, "ip access-list extended USERS"]
+    for k in range(entries):
+        port = random_.choice(("msrpc", "syslog", "www", "443", "drip"))
+        lines.append(" permit tcp any host 198.51.100.%d eq %s" % (k % 250, "8080" if is_new and k == entries // 2 else port))
+    return lines + [" permit tcp any object-group SERVERS eq 22", " deny ip any any", "line vty 0 4", " login local", "end"]
+
+
 def crossed(folder, n, change):
     random_ = random.Random(23)
     lists = [[holed(random_) for _ in range(n)] for _ in range(2)]
@@ -404,7 +430,7 @@ def one_list(folder, n, percent):
 def main():
     kind, folder, *numbers = sys.argv[1:]
     shapes = {"list": one_list}
-    shapes.update((shape.__name__, shape) for shape in (chain, fabric, listed, lists, leaves, layers, ring, device, hops, circle, folders, crossed))
+    shapes.update((shape.__name__, shape) for shape in (chain, fabric, listed, lists, leaves, layers, ring, device, hops, circle, folders, crossed, shown))
     shapes[kind](folder, *(int(word) if word.isdigit() else word for word in numbers))
 
 

@@ -1,5 +1,5 @@
-# Completions of review, rollout, view, doctor, window, wire and prove for bash: commands, options, files, and for trace the devices and interfaces of the folder
-# that the line names. `source completions/diqenyu.bash` for one shell; `make install` for all.
+# Completions for bash of review, rollout, view, doctor, window, wire, sweep, prepare, collect and prove: commands, options, files, and for
+# trace the devices and interfaces of the folder on the line. `source completions/diqenyu.bash` for one shell; `make install` for all.
 
 # The hostnames of a folder's configurations, and the interfaces of one device.
 _diqenyu_devices() {
@@ -17,27 +17,46 @@ _diqenyu_interfaces() {
 }
 
 _diqenyu() {
-    local word=${COMP_WORDS[COMP_CWORD]} at it options='' words='' files='' only=''
+    local word=${COMP_WORDS[COMP_CWORD]} at it options='' words='' files='' only='' flags='' paths='' others=''
     local -a given=()
-    # The words before this one that are no option and no option's value; behind -- no word is an option.
+    # Of each program the options without a value, those whose value is a file or a folder, and those with another value.
+    case ${1##*/} in
+        *review) others='--workers --ttl' ;;
+        *view) others=--title ;;
+        *wire) paths='--neighbors --check --active' ;;
+        *window)
+            flags='--foreign --all-edges --no-lines --finer --as-written'
+            paths='--newlinks --questions --page --questions-new --expect --write-expect --sources --accept --json --sarif --junit --tickets --routes --active --waivers --keep --git'
+            others='--title --fail-on --vrf'
+            ;;
+        *sweep)
+            flags='--pairs --copy --slurm --jobs-only --as-written'
+            paths=--folder
+            others='--show --by-ingress --jobs --sshlogin --workers --ttl'
+            ;;
+        *prepare)
+            flags='--keep-static --as-written --check'
+            paths='--routes --active --waivers --apply'
+            others=--vrf
+            ;;
+    esac
+    # The words before this one that are no option and no option's value; after -- no word is an option.
     for ((at = 1; at < COMP_CWORD; at++)); do
         it=${COMP_WORDS[at]}
-        case $only$it in
-            --) only=' ' ;;
-            --workers | --ttl | --newlinks | --questions | --page | --title | --neighbors | --check | --active) at=$((at + 1)) ;;
-            --fail-on | --questions-new | --expect | --write-expect | --sources | --accept | --json | --sarif | --junit) [[ ${1##*/} == *window ]] && at=$((at + 1)) ;;
-            --*) ;;
-            *) given+=("${it/#\~/$HOME}") ;;
-        esac
+        if [ -n "$only" ]; then
+            given+=("${it/#\~/$HOME}")
+        elif [ "$it" = -- ]; then
+            only=' '
+        elif [[ " $paths $others " == *" $it "* ]]; then
+            at=$((at + 1))
+        elif [[ $it != --* ]]; then
+            given+=("${it/#\~/$HOME}")
+        fi
     done
     COMPREPLY=()
     if [ -z "$only" ]; then
-        case ${COMP_WORDS[COMP_CWORD - 1]} in
-            --workers | --ttl | --title) return ;;
-            --newlinks | --questions | --page | --neighbors | --check | --active) files=1 ;;
-            --questions-new | --expect | --write-expect | --sources | --accept | --json | --sarif | --junit) [[ ${1##*/} == *window ]] && files=1 ;;
-            --fail-on) return ;;
-        esac
+        [[ " $others " == *" ${COMP_WORDS[COMP_CWORD - 1]} "* ]] && return
+        [[ " $paths " == *" ${COMP_WORDS[COMP_CWORD - 1]} "* ]] && files=1
     fi
     case ${1##*/} in
         *review)
@@ -66,18 +85,30 @@ _diqenyu() {
             ;;
         *doctor)
             [ "${#given[@]}" -lt 4 ] && files=1
-            options=--all
-            [ "${#given[@]}" = 0 ] && options='--all --help --version'
+            options='--all --json'
+            [ "${#given[@]}" = 0 ] && options='--all --json --help --version'
             ;;
         *wire)
             [ "${#given[@]}" -lt 1 ] && files=1
-            options='--neighbors --check --active'
+            options=$paths
             [ "${#given[@]}" = 0 ] && options="$options --help --version"
             ;;
         *window)
             [ "${#given[@]}" -lt 3 ] && files=1
-            options='--newlinks --questions --page --title --questions-new --expect --write-expect --sources --foreign --all-edges --accept --fail-on --json --sarif --junit --no-lines --finer --tickets --routes --vrf --active --waivers --as-written --keep --git'
+            options="$flags $paths $others"
             [ "${#given[@]}" = 0 ] && options="$options --help --version"
+            ;;
+        *sweep)
+            [ "${#given[@]}" = 0 ] && [ -z "$files" ] && words='compare ask'
+            [[ ${#given[@]} == [123] ]] && files=1
+            options="$flags $paths $others"
+            ;;
+        *prepare)
+            [ "${#given[@]}" -lt 2 ] && files=1
+            options="$flags $paths $others"
+            ;;
+        *collect)
+            [ "${#given[@]}" -lt 2 ] && files=1
             ;;
         *view)
             files=1
@@ -97,4 +128,4 @@ _diqenyu() {
         mapfile -t COMPREPLY < <(compgen -W "$words" -- "$word")
     fi
 }
-complete -F _diqenyu review rollout view doctor window wire prove
+complete -F _diqenyu review rollout view doctor window wire sweep prepare collect prove

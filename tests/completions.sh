@@ -76,8 +76,8 @@ offers "--csv --html --json --rows" view --audit --json --
 offers "--csv --html --json --junit" view --answers --
 offers "--html --json" view --why --
 offers "--html --json" view --traces --
-offers "--all" doctor $campus/old --
-offers "--all --help --version" doctor --
+offers "--all --json" doctor $campus/old --
+offers "--all --help --json --version" doctor --
 offers "$campus/links" doctor $campus/old $campus/new $campus/li
 offers "" doctor --all a b c d $campus/li
 offers "--accept --active --all-edges --as-written --expect --fail-on --finer --foreign --git --json --junit --keep --newlinks --no-lines --page --questions --questions-new --routes --sarif --sources --tickets --title --vrf --waivers --write-expect" window $campus/old --
@@ -98,6 +98,26 @@ offers "" review trace "$scratch" $campus/links R3 ""
 offers "" review trace "$scratch/none" $campus/links ""
 offers "DC1 DIST-A DIST-B" review trace $campus/old $campus/links D
 offers "" review trace $campus/old $campus/links DC1 Vlan1 ""
+
+offers "ask compare" sweep ""
+offers "$campus/links" sweep compare --jobs 4 $campus/old $campus/new $campus/li
+offers "" sweep ask a b c $campus/li
+offers "" sweep compare --show ""
+offers "$campus/new" sweep --folder $campus/ne
+offers "--active --apply --as-written" prepare $campus/old --a
+offers "$campus/new" prepare --check $campus/old $campus/ne
+offers "$campus/new" prepare --apply $campus/ne
+offers "" prepare a b $campus/ne
+offers "$campus/new" collect $campus/links $campus/ne
+
+# Each option of a program's usage is offered, and no other. (view and review offer them by their commands, as above.)
+for name in rollout doctor window wire sweep prepare collect; do
+    wanted=$({
+        "./$name" --help 2>&1 </dev/null | sed -n '/^usage:/,$p' | grep '^  ' | grep -o -E -e '--[a-z-]+'
+        [ $name = rollout ] && echo --version
+    } | sort -u | tr '\n' ' ')
+    offers "${wanted% }" $name --
+done
 
 echo "$passed passed, $failed failed"
 [ "$failed" = 0 ]

@@ -2,8 +2,8 @@
 """Finds what docs/PROVED.md and docs/CRATES.md name and no contract has, and what they call unused though a command uses it.
 
 A name is `crate::item` or `crate::type::item` between backticks; an item is a function, a type, a trait, a law or a clause of that crate.
-What is called unused stands in PROVED's section "Proved too, and used by no command", or on a line of CRATES with the words "no command calls". It
-is used where a crate below a program, and not of tests or benchmarks, names it outside its own crate's comments.
+PROVED's section "Proved too, and used by no command", and items of CRATES with the words "no command calls", name what is unused. It is
+used if a crate below a program, and not of tests or benchmarks, names it outside its own crate's comments.
 
 The last line is 'N passed, M failed'.
 """
@@ -80,10 +80,10 @@ def called_unused(crates: dict[str, list[str]]) -> Iterator[tuple[str, str]]:
             parts = path.split("::")
             crate = parts[0] if parts[0] in crates else crate
             yield crate, parts[-1]
-    for line in read_text("docs", "CRATES.md").splitlines():
-        owner = re.match(r"\| `(\w+)`", line)
-        for name in re.findall(r"`(\w+)`[^`;]*no command calls", line) if owner else []:
-            yield owner.group(1), name
+    for item in re.findall(r"^- (`\w+`.*(?:\n  .*)*)", read_text("docs", "CRATES.md"), re.M):
+        owner = item.split("`")[1]
+        for name in re.findall(r"`(\w+)`[^`;]*no command calls", item.replace("\n", " ")):
+            yield owner, name
 
 
 def users_of(crate: str, name: str, codes: dict[str, str]) -> list[str]:

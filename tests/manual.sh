@@ -1,6 +1,6 @@
 #!/usr/bin/env bash
-# manual.sh: the manual pages are formatted without a warning, by groff and by mandoc, and have the options and words of the usage. A
-# tool that isn't there is told on a line.
+# manual.sh: groff, man and mandoc format the manual pages without a warning, and each page has the options and words of its program's
+# usage. A line names each tool that isn't installed. DIQENYU_REVIEW and the like name the programs, as tests/run does.
 # The last line is 'N passed, M failed'.
 set -u
 cd "$(dirname "${BASH_SOURCE[0]}")/.." || exit 2
@@ -42,14 +42,34 @@ for page in man/*.[17]; do
     fi
 done
 
-# Each word of the usage is on the page of its program.
-for name in review view; do
-    usage=tests/usage
-    [ $name = view ] && usage=tests/view-usage
+# usage NAME: the lines of the program's usage that have forms and options.
+usage() {
+    "./$1" --help 2>&1 </dev/null | sed -n '/^usage:/,$p' | grep -e '^  ' -e '^usage: '
+}
+
+# Each command, option and name of a value in a usage is on the page of its program, and each option that a page explains is in the
+# usage.
+for name in review rollout view doctor window wire sweep prepare collect prove; do
+    page=man/$name.1
+    text=$(sed -e 's/\\f[BIR]//g' -e 's/\\-/-/g' "$page")
+    forms=$(usage "$name")
     while read -r word; do
-        silent "$word on man/$name.1" grep -q -w -e "${word//-/\\\\-}" man/$name.1
-    done < <(tr -cs 'A-Za-z-' '\n' <$usage | grep -v -x -e '' -e usage -e view | sort -u)
+        silent "$word of the usage is on $page" grep -q -w -F -e "$word" <<<"$text"
+    done < <(grep -o -E -e '--[a-z-]+' -e '\b[A-Z][A-Z0-9]+\b' -e '^  [a-z]+ ' <<<"$forms" | tr -d ' ' | sort -u)
+    silent "$name has a usage" grep -q . <<<"$forms"
+    while read -r option; do
+        silent "$option of $page is in the usage" grep -q -w -F -e "$option" <<<"$forms"
+    done < <(awk '/^\.TP/ { getline; gsub(/\\f[BIR]/, ""); gsub(/\\-/, "-"); print }' "$page" | grep -o -E -e '--[a-z-]+' |
+        grep -v -x -e --help -e --version | sort -u)
 done
+
+# The forms of each usage are those of its page.
+if said=$(python3 tests/synopses.py); then
+    passed=$((passed + 1))
+else
+    failed=$((failed + 1))
+    echo "$said"
+fi
 
 echo "$passed passed, $failed failed"
 [ "$failed" = 0 ]

@@ -1,14 +1,15 @@
 #!/usr/bin/env python3
-"""Runs what README.md and docs/GUIDE.md show, as it stands, and looks for pages that name a file that isn't there.
+"""Runs every command that README.md, docs/GUIDE.md and the manual pages show, and finds pages that name a file which doesn't exist.
 
-usage: pages.py [PAGE ...]      by default README.md, docs/GUIDE.md for the commands, and all pages for the links
+usage: pages.py [PAGE ...]      by default README.md, docs/GUIDE.md and man/*.[17] for the commands, and all pages for the links
 
-A block is a run of lines that are indented by four blanks, or stand between lines of three backquotes. A block of which a
-line begins with `$ ` is a session: the lines behind such a line are what it writes, its output and its error output together,
-and `...` stands for any lines. A block with a line that begins with a program of the house is run as one script. Each runs in a
-copy of the repository's top with a folder `change`, which is the change of examples/campus, so that the guide's paths are there.
+A block is a run of lines that are indented by four blanks, or between lines of three backquotes; in a manual page it is between .EX and
+.EE. A block with a line that begins with `$ ` is a session: the lines after such a line are its output and its error output together, and
+`...` stands for any lines. A block with a line that begins with one of our programs is run as one script. Each page runs in a copy of the
+repository's top with a folder `change`, which is the change of examples/campus; manual pages find the programs on the PATH.
 The last line is 'N passed, M failed'.
 """
+import os
 import pathlib
 import re
 import shutil
@@ -17,7 +18,8 @@ import sys
 import tempfile
 
 TOP = pathlib.Path(__file__).resolve().parent.parent
-PROGRAMS = ('./review', './rollout', './view', './doctor', './window', './wire', './launch', '$ ')
+NAMES = ('review', 'rollout', 'view', 'doctor', 'window', 'wire', 'sweep', 'prepare', 'collect')
+PROGRAMS = ('$ ', './launch ') + tuple(f'./{name} ' for name in NAMES)
 # Statuses of a shell that could not run a command, of words outside the usage, and of a launcher that could not build.
 NOT_RUN = (2, 70, 126, 127)
 SECONDS = 120
@@ -45,6 +47,19 @@ def blocks(text):
             block = []
     if block:
         yield first, strip(block)
+
+
+def manual_blocks(text):
+    """The examples of a manual page, without the escapes of roff, each with the number of its first line."""
+    block = None
+    for number, line in enumerate(text.splitlines(), 1):
+        if line == '.EX':
+            first, block = number + 1, []
+        elif line == '.EE':
+            yield first, block
+            block = None
+        elif block is not None:
+            block.append(line.removeprefix('\\&').replace('\\-', '-').replace('\\e', '\\'))
 
 
 def strip(block):
@@ -98,18 +113,21 @@ def run(script, folder):
     """The status of a script of the shell, and what it wrote."""
     try:
         done = subprocess.run(['bash', '-c', script], cwd=folder, stdin=subprocess.DEVNULL, stdout=subprocess.PIPE,
-                              stderr=subprocess.STDOUT, timeout=SECONDS, check=False)
+                              stderr=subprocess.STDOUT, timeout=SECONDS, check=False,
+                              env=os.environ | {'PATH': f'{folder}:{os.environ["PATH"]}'})
     except subprocess.TimeoutExpired:
         return NOT_RUN[-1], [f'no end after {SECONDS} seconds']
     return done.returncode, done.stdout.decode(errors='replace').splitlines()
 
 
 def try_page(page, told):
-    """Runs the blocks of a page; tells what isn't as it is shown."""
+    """Runs the blocks of a page; adds to `told` what isn't as the page shows it."""
     passed = 0
     folder = place()
-    for line, block in blocks((TOP / page).read_text()):
-        if not any(entry.startswith(PROGRAMS) for entry in block):
+    is_manual = page.startswith('man/')
+    programs = ('$ ', *(f'{name} ' for name in NAMES)) if is_manual else PROGRAMS
+    for line, block in (manual_blocks if is_manual else blocks)((TOP / page).read_text()):
+        if not any(entry.startswith(programs) for entry in block):
             continue
         shown = list(sessions(block))
         for command, wanted in shown:
@@ -140,6 +158,8 @@ def try_links(page, told):
     passed = 0
     text = (TOP / page).read_text()
     names = set(re.findall(r'`((?:docs|examples|tests|bench|crates)/[\w./-]+)`', text))
+    if page.startswith('man/'):
+        names |= set(re.findall(r'\b(?:docs|examples)/[\w./-]*\w', text.replace('\\-', '-')))
     names |= set(re.findall(r'`([\w./-]+\.(?:md|antt|rt|py|sh|c|html|png))`', text))
     names |= {name for name in re.findall(r'\]\(([^)#:]+)\)', text)}
     for name in sorted(names):
@@ -152,11 +172,14 @@ def try_links(page, told):
 
 def main():
     """Tries the pages, and tells how many of their commands and links are as they say."""
-    pages = sys.argv[1:] or ['README.md', 'docs/GUIDE.md']
+    manual = sorted(f'man/{path.name}' for path in TOP.glob('man/*.[17]'))
+    pages = sys.argv[1:] or ['README.md', 'docs/GUIDE.md', *manual]
     told = []
     passed = sum(try_page(page, told) for page in pages)
     every = [str(path.relative_to(TOP)) for path in [*TOP.glob('*.md'), *TOP.glob('docs/*.md'), *TOP.glob('examples/**/*.md')]]
-    passed += sum(try_links(page, told) for page in sorted(every))
+    every += manual
+    for page in sorted(every):
+        passed += try_links(page, told)
     for line in told:
         print('FAILED', line)
     print(f'{passed} passed, {len(told)} failed')
